@@ -1,0 +1,2 @@
+pub mod Stores
+mod Unique
