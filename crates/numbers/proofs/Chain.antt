@@ -3,6 +3,7 @@
 use mathlib.Core.Path.{_≡_, refl, sym, ap, _∙_}
 use mathlib.Core.List.{List}
 use mathlib.Core.Bool.{Bool, true, false}
+use mathlib.Core.Logic.{_⊎_, inl, inr, ⊎-elim}
 use Prim.Native.Nat.{ℕ, _+_, _<_, _≤_}
 use native.Mathlib.Omega.{arith}
 use lib.ListN.{length}
@@ -50,6 +51,12 @@ module _ {A : Type 0} (x y z : A) where
     pub not-le : k < m → z ≡ y → z ≡ when (leb m k) x y
     not-le e q = by-false (leb m k) (lt-leb m k e) q
 
+-- by which way a choice was made
+pub way : {A : Type 0} (t : Bool) (x y z : A) → when t x y ≡ z → ((t ≡ true) × (x ≡ z)) ⊎ ((t ≡ false) × (y ≡ z))
+unfolding when
+way true x y z e = inl (refl, e)
+way false x y z e = inr (refl, e)
+
 -- a choice is the same under a function
 pub through : {A B : Type 0} (f : A → B) (t : Bool) (x y : A) → f (when t x y) ≡ when t (f x) (f y)
 unfolding when
@@ -73,6 +80,14 @@ module _ (w : ℕ) (s : List ℕ) (at : ℕ) where
   pub ends : {A : Type 0} (refused : Refusal → A) (go : ℕ → A) (x : A) → length s < at + w → x ≡ refused (refusal 1 at) → x ≡ field refused w s at go
   unfolding field
   ends refused go x h q = not-le _ _ x _ _ h q
+
+  -- by which way a field was gone
+  pub field-way : {A : Type 0} (refused : Refusal → A) (go : ℕ → A) (z : A) → field refused w s at go ≡ z →
+      ((at + w ≤ length s) × (go (be w s at) ≡ z)) ⊎ ((length s < at + w) × (refused (refusal 1 at) ≡ z))
+  unfolding field
+  field-way refused go z e =
+      ⊎-elim (λ y. inl (leb-true (at + w) (length s) (y .0), y .1)) (λ y. inr (leb-false (at + w) (length s) (y .0), y .1))
+      (way (fits w s at) (go (be w s at)) (refused (refusal 1 at)) z e)
 
   told-by : (t : Bool) (n : ℕ) → when t (number (be w s at)) (none (refusal 1 at)) ≡ number n → (t ≡ true) × (n ≡ be w s at)
   unfolding when

@@ -1,13 +1,13 @@
 -- Laws of numbers as bytes, each over the width. Assumes nothing.
 use mathlib.Core.Path.{_≡_, refl, sym, ap, ap₂, _∙_}
-use mathlib.Core.List.{List, [], _∷_, _++_, append-assoc}
+use mathlib.Core.List.{List, [], _∷_, _++_, append-assoc, append-nil}
 use Prim.Native.Nat.{ℕ, zero, suc, _+_, _*_, _-_, _/_, _%_, _^_, _≤_, _<_}
 use native.Mathlib.Nat.{pow-zero, pow-suc, mul-one, add-zero, zero-mul, zero-add, suc-add, add-mul, mul-assoc, add-assoc, pow-le-pow-right, one-le-pow, div-add-mod', mul-comm, mod-lt, mod-one, mul-le-mul-right, mod-eq-of-lt, mul-add-mod-self-right, mul-add-div-right, div-eq-of-lt, div-one}
 use native.Mathlib.Numerals.{add-one}
 use native.Mathlib.Omega.{arith}
-use lib.ListN.{length, getD, take, drop, set, length-append}
+use lib.ListN.{length, getD, take, drop, length-append}
 use lib.Pow.{pow-add}
-use lib.Seq.{getD-append-seam, drop-cons, take-add, sets, sets-eq, length-sets}
+use lib.Seq.{getD-append-seam, drop-cons, take-all}
 use Rattle.numbers.specs.Number.{be, bytes}
 
 -- READING
@@ -94,7 +94,7 @@ be-bytes (suc w) n pre rest =
     ap₂ (λ (m k : ℕ). m * 256 ^ w + k) g i ∙ digits (256 ^ w) n (pow-pos w) ∙ ap (λ k. n % k) (sym (pow-suc 256 w))
 
 -- what stands above the w bytes is not written
-higher : (w a n : ℕ) → bytes w (a * 256 ^ w + n) ≡ bytes w n
+pub higher : (w a n : ℕ) → bytes w (a * 256 ^ w + n) ≡ bytes w n
 unfolding bytes
 higher zero a n = refl
 higher (suc w) a n =
@@ -119,3 +119,11 @@ bytes-be (suc w) s at h f =
     let q : (g * p + y) / p % 256 ≡ g = ap (λ k. k % 256) d ∙ mod-eq-of-lt (omega (arith, h at)) ∙ omega arith in
     ap₂ (λ (x : ℕ) (l : List ℕ). x ∷ l) q (higher w g y ∙ bytes-be w s (suc at) h (omega arith))
     ∙ sym (ap (take (suc w)) (drop-cons s at 0 (omega arith)))
+
+-- THE BYTES ALONE: a number that has w bytes is those bytes, and the other way round
+
+pub of-bytes : (w n : ℕ) → n < 256 ^ w → be w (bytes w n) 0 ≡ n
+of-bytes w n h = ap (λ l. be w l 0) (sym (append-nil (bytes w n))) ∙ be-bytes w n [] [] ∙ mod-eq-of-lt h
+
+pub to-bytes : (w : ℕ) (s : List ℕ) → Bytes s → length s ≡ w → bytes w (be w s 0) ≡ s
+to-bytes w s h e = bytes-be w s 0 h (omega arith) ∙ take-all w s (omega arith)

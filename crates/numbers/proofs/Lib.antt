@@ -1,4 +1,5 @@
 pub mod Laws
 pub mod Chain
 pub mod Table
+mod Vectors
 mod Unique

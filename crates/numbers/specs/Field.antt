@@ -34,3 +34,7 @@ widest = 8
 -- a field whose width is asked for: a wider number does not fit (9)
 abbrev pub numberOf : ℕ → List ℕ → ℕ → U64
 numberOf w s at = when (leb w widest) (field Refused w s at Is) (Refused (refusal 9 0))
+
+-- the number in w bytes, or 0 where they are not all there
+abbrev pub orZero : ℕ → List ℕ → ℕ → ℕ
+orZero w s at = field (λ q. 0) w s at (λ n. n)

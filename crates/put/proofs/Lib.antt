@@ -1,2 +1,4 @@
 pub mod Stores
+pub mod Laws
+mod Vectors
 mod Unique

@@ -1,1 +1,3 @@
 pub mod Signs
+mod Vectors
+mod Unique

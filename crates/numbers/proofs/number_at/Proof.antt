@@ -5,40 +5,28 @@ use Rattle.numbers.proofs.Chain.{is-le, not-le, whole, ends}
 use borrow.Author.Needs.{needs}
 use Rattle.numbers.proofs.number_at.Statement.{statement}
 use Rattle.numbers.proofs.number_at.Tie as tie
-use Rattle.numbers.proofs.number_at.Reads as reads
-use Rattle.numbers.proofs.number_at.Lts as lts
-use Rattle.numbers.proofs.cut.Reads as cut-reads
-use Rattle.numbers.proofs.raw.Reads as raw-reads
 
--- src/lib.rt:162:9
 returns : tie.Need-returns
 returns c = not-le _ _ _ _ _ (c .if1 .taken) refl
 
--- src/lib.rt:169:29
 cut-requires : tie.Need-cut-requires
 cut-requires c κs = search needs
 
--- src/lib.rt:169:9
 returns-2 : tie.Need-returns-2
 returns-2 c = is-le _ _ _ _ _ (c .before .before .if1 .left) (ends (c .before .before .before .before .args .w) (c .before .before .before .before .args .s .now) (c .before .before .before .before .args .at) _ _ _ (omega arith) (ap Refused (c .cut .ensures)))
 
--- src/lib.rt:171:8
 sub-if3 : tie.Need-sub-if3
 sub-if3 c = search needs
 
--- src/lib.rt:172:29
 cut-requires-2 : tie.Need-cut-requires-2
 cut-requires-2 c κs = search needs
 
--- src/lib.rt:172:9
 returns-3 : tie.Need-returns-3
 returns-3 c = is-le _ _ _ _ _ (c .before .before .before .if1 .left) (ends (c .before .before .before .before .before .args .w) (c .before .before .before .before .before .args .s .now) (c .before .before .before .before .before .args .at) _ _ _ (omega arith) (ap Refused (c .cut2 .ensures)))
 
--- src/lib.rt:174:13
 raw-requires : tie.Need-raw-requires
 raw-requires c κs = search needs
 
--- src/lib.rt:158:1
 returns-4 : tie.Need-returns-4
 returns-4 c = is-le _ _ _ _ _ (c .before .before .before .if1 .left) (whole (c .before .before .before .before .before .args .w) (c .before .before .before .before .before .args .s .now) (c .before .before .before .before .before .args .at) _ _ _ _ (omega arith) (c .raw .ensures) refl)
 

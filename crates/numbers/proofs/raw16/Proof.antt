@@ -3,39 +3,28 @@ use Rattle.numbers.proofs.Laws.{join}
 use borrow.Author.Needs.{needs}
 use Rattle.numbers.proofs.raw16.Statement.{statement}
 use Rattle.numbers.proofs.raw16.Tie as tie
-use Rattle.numbers.proofs.raw16.Reads as reads
-use Rattle.numbers.proofs.raw16.Lts as lts
-use Rattle.numbers.proofs.raw8.Reads as raw8-reads
 
--- src/lib.rt:74:6
 raw8-requires : tie.Need-raw8-requires
 raw8-requires c κs = search needs
 
--- src/lib.rt:74:6
 cast-result : tie.Need-cast-result
 cast-result c = search needs
 
--- src/lib.rt:74:5
 mul-result : tie.Need-mul-result
 mul-result c = search needs
 
--- src/lib.rt:74:43
 add-raw8 : tie.Need-add-raw8
 add-raw8 c = search needs
 
--- src/lib.rt:74:35
 raw8-requires-2 : tie.Need-raw8-requires-2
 raw8-requires-2 c κs = search needs
 
--- src/lib.rt:74:35
 cast-result-2 : tie.Need-cast-result-2
 cast-result-2 c = search needs
 
--- src/lib.rt:74:5
 add-result : tie.Need-add-result
 add-result c = search needs
 
--- src/lib.rt:70:1
 returns : tie.Need-returns
 returns c = omega (arith, join 1 1 (c .before .before .before .args .s .now) (c .before .before .before .args .at))
 

@@ -3,14 +3,10 @@ use Rattle.numbers.proofs.Laws.{one}
 use borrow.Author.Needs.{needs}
 use Rattle.numbers.proofs.raw8.Statement.{statement}
 use Rattle.numbers.proofs.raw8.Tie as tie
-use Rattle.numbers.proofs.raw8.Reads as reads
-use Rattle.numbers.proofs.raw8.Lts as lts
 
--- src/lib.rt:67:5
 shared-slice-read-result : tie.Need-shared-slice-read-result
 shared-slice-read-result c = search needs
 
--- src/lib.rt:63:1
 returns : tie.Need-returns
 returns c = sym (one _ _)
 

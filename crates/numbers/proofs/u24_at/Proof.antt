@@ -1,33 +1,23 @@
 use mathlib.Core.Path.{refl, ap}
 use native.Mathlib.Omega.{arith}
-use Rattle.numbers.specs.declared.U32.the-variants.{Is, Refused}
+use Rattle.numbers.specs.declared.U32.the-variants.{Refused}
 use Rattle.numbers.proofs.Chain.{whole, ends}
 use borrow.Author.Needs.{needs}
 use Rattle.numbers.proofs.u24_at.Statement.{statement}
 use Rattle.numbers.proofs.u24_at.Tie as tie
-use Rattle.numbers.proofs.u24_at.Reads as reads
-use Rattle.numbers.proofs.u24_at.Lts as lts
-use Rattle.numbers.proofs.cut.Reads as cut-reads
-use Rattle.numbers.proofs.raw24.Reads as raw24-reads
-use Rattle.numbers.proofs.room.Reads as room-reads
 
--- src/lib.rt:133:8
 room-requires : tie.Need-room-requires
 room-requires c κs = search needs
 
--- src/lib.rt:134:29
 cut-requires : tie.Need-cut-requires
 cut-requires c κs = search needs
 
--- src/lib.rt:134:9
 returns : tie.Need-returns
 returns c = ends 3 _ _ _ _ _ (omega arith) (ap Refused (c .cut .ensures))
 
--- src/lib.rt:136:13
 raw24-requires : tie.Need-raw24-requires
 raw24-requires c κs = search needs
 
--- src/lib.rt:130:1
 returns-2 : tie.Need-returns-2
 returns-2 c = whole 3 _ _ _ _ _ _ (omega arith) (c .raw24 .ensures) refl
 

@@ -1,33 +1,23 @@
 use mathlib.Core.Path.{refl, ap}
 use native.Mathlib.Omega.{arith}
-use Rattle.numbers.specs.declared.U8.the-variants.{Is, Refused}
+use Rattle.numbers.specs.declared.U8.the-variants.{Refused}
 use Rattle.numbers.proofs.Chain.{whole, ends}
 use borrow.Author.Needs.{needs}
 use Rattle.numbers.proofs.u8_at.Statement.{statement}
 use Rattle.numbers.proofs.u8_at.Tie as tie
-use Rattle.numbers.proofs.u8_at.Reads as reads
-use Rattle.numbers.proofs.u8_at.Lts as lts
-use Rattle.numbers.proofs.cut.Reads as cut-reads
-use Rattle.numbers.proofs.raw8.Reads as raw8-reads
-use Rattle.numbers.proofs.room.Reads as room-reads
 
--- src/lib.rt:114:8
 room-requires : tie.Need-room-requires
 room-requires c κs = search needs
 
--- src/lib.rt:115:28
 cut-requires : tie.Need-cut-requires
 cut-requires c κs = search needs
 
--- src/lib.rt:115:9
 returns : tie.Need-returns
 returns c = ends 1 _ _ _ _ _ (omega arith) (ap Refused (c .cut .ensures))
 
--- src/lib.rt:117:12
 raw8-requires : tie.Need-raw8-requires
 raw8-requires c κs = search needs
 
--- src/lib.rt:111:1
 returns-2 : tie.Need-returns-2
 returns-2 c = whole 1 _ _ _ _ _ _ (omega arith) (c .raw8 .ensures) refl
 

@@ -5,19 +5,13 @@ use borrow.Author.Tests.{lt-ltb}
 use borrow.Author.Needs.{needs}
 use Rattle.put.proofs.has_bytes.Statement.{statement}
 use Rattle.put.proofs.has_bytes.Tie as tie
-use Rattle.put.proofs.has_bytes.Reads as reads
-use Rattle.put.proofs.has_bytes.Lts as lts
-use Rattle.put.proofs.power.Reads as power-reads
 
--- src/put.rt:56:9
 returns : tie.Need-returns
 returns c = sym (lt-ltb (c .before .args .n) (256 ^ c .before .args .w) (rw (c .if1 .taken) (c .before .fits .n .fits)))
 
--- src/put.rt:58:9
 power-requires : tie.Need-power-requires
 power-requires c κs = search needs
 
--- src/put.rt:51:1
 returns-2 : tie.Need-returns-2
 returns-2 c = ap (ltb (c .before .before .args .n)) (c .power .ensures)
 

@@ -9,48 +9,34 @@ use Rattle.numbers.proofs.Chain.{by-true, by-false, is-le, not-le, is-lt, not-l
 use borrow.Author.Needs.{needs}
 use Rattle.put.proofs.number.Statement.{statement}
 use Rattle.put.proofs.number.Tie as tie
-use Rattle.put.proofs.number.Reads as reads
-use Rattle.put.proofs.number.Lts as lts
-use Rattle.put.proofs.has_bytes.Reads as has-bytes-reads
-use Rattle.put.proofs.store.Reads as store-reads
 
--- src/put.rt:66:9
 returns : tie.Need-returns
 returns c = not-le _ _ _ _ _ (c .if1 .taken) refl
 
--- src/put.rt:71:9
 has-bytes-requires : tie.Need-has-bytes-requires
 has-bytes-requires c κs = search needs
 
--- src/put.rt:72:9
 returns-2 : tie.Need-returns-2
 returns-2 c = is-le _ _ _ _ _ (c .before .before .if1 .left) (by-false _ _ _ _ (sym (c .before .has-bytes .ensures) ∙ not-true _ (c .if2 .taken)) refl)
 
--- src/put.rt:77:8
 sub-if3 : tie.Need-sub-if3
 sub-if3 c = search needs
 
--- src/put.rt:78:9
 returns-3 : tie.Need-returns-3
 returns-3 c = is-le _ _ _ _ _ (c .before .before .before .if1 .left) (by-true _ _ _ _ (sym (c .before .before .has-bytes .ensures) ∙ not-false _ (c .before .if2 .left)) (not-le _ _ _ (c .before .before .before .before .before .args .at + c .before .before .before .before .before .args .w) (length (c .before .before .before .before .before .args .buf .now)) (omega arith) (not-lt _ _ _ (c .before .before .before .before .before .args .at + c .before .before .before .before .before .args .w) (2 ^ 64) (omega arith) refl)))
 
--- src/put.rt:83:15
 add-end : tie.Need-add-end
 add-end c = search needs
 
--- src/put.rt:85:9
 returns-4 : tie.Need-returns-4
 returns-4 c = is-le _ _ _ _ _ (c .before .before .before .before .if1 .left) (by-true _ _ _ _ (sym (c .before .before .before .has-bytes .ensures) ∙ not-false _ (c .before .before .if2 .left)) (not-le _ _ _ (c .before .before .before .before .before .before .args .at + c .before .before .before .before .before .before .args .w) (length (c .before .before .before .before .before .before .args .buf .now)) (omega arith) (is-lt _ _ _ (c .before .before .before .before .before .before .args .at + c .before .before .before .before .before .before .args .w) (2 ^ 64) (omega arith) refl)))
 
--- src/put.rt:90:5
 store-requires : tie.Need-store-requires
 store-requires c κs = search needs
 
--- src/put.rt:62:1
 same-length : tie.Need-same-length
 same-length c = search needs
 
--- src/put.rt:62:1
 returns-5 : tie.Need-returns-5
 returns-5 c = is-le _ _ _ _ _ (c .before .before .before .before .before .before .before .before .if1 .left) (by-true _ _ _ _ (sym (c .before .before .before .before .before .before .before .has-bytes .ensures) ∙ not-false _ (c .before .before .before .before .before .before .if2 .left)) (is-le _ _ _ (c .before .before .before .before .before .before .before .before .before .before .args .at + c .before .before .before .before .before .before .before .before .before .before .args .w) (length (c .before .before .before .before .before .before .before .before .before .before .args .buf .now)) (omega arith) (ap (wrote (Done (c .before .before .before .before .before .before .before .before .before .before .args .at + c .before .before .before .before .before .before .before .before .before .before .args .w))) (c .before .before .store .ensures))))
 

@@ -7,8 +7,6 @@ use Rattle.numbers.proofs.Table.{at}
 use borrow.Author.Needs.{needs}
 use Rattle.put.proofs.power.Statement.{statement}
 use Rattle.put.proofs.power.Tie as tie
-use Rattle.put.proofs.power.Reads as reads
-use Rattle.put.proofs.power.Lts as lts
 
 powers : List ℕ
 powers = 1 ∷ 0x100 ∷ 0x1_0000 ∷ 0x100_0000 ∷ 0x1_0000_0000 ∷ 0x100_0000_0000 ∷ 0x1_0000_0000_0000 ∷ 0x100_0000_0000_0000 ∷ []
@@ -16,15 +14,12 @@ powers = 1 ∷ 0x100 ∷ 0x1_0000 ∷ 0x100_0000 ∷ 0x1_0000_0000 ∷ 0x100_000
 right : ℕ → ℕ → Bool
 right w x = eqb x (256 ^ w)
 
--- src/put.rt:33:5
 mul-result : tie.Need-mul-result
 mul-result c = search needs
 
--- src/put.rt:33:5
 array-read-result : tie.Need-array-read-result
 array-read-result c = search needs
 
--- src/put.rt:29:1
 returns : tie.Need-returns
 unfolding powers right
 returns c = eqb→eq (getD powers (c .args .w) 0) (256 ^ c .args .w) (at right powers tt (c .args .w) (search needs))

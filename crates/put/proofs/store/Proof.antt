@@ -1,5 +1,5 @@
 use mathlib.Core.Path.{_≡_, refl, sym, _∙_}
-use Prim.Native.Nat.{_+_, _-_, _^_, _≤_}
+use Prim.Native.Nat.{_+_, _-_, _≤_}
 use native.Mathlib.Omega.{arith}
 use borrow.Author.Needs.{needs}
 use lib.ListN.{length, length-set}
@@ -9,9 +9,6 @@ use Rattle.numbers.proofs.Laws.{pow-pos}
 use Rattle.put.proofs.Stores.{stored, none-left}
 use Rattle.put.proofs.store.Statement.{statement}
 use Rattle.put.proofs.store.Tie as tie
-use Rattle.put.proofs.store.Reads as reads
-use Rattle.put.proofs.store.Lts as lts
-use Rattle.put.proofs.power.Reads as power-reads
 
 abbrev Inv-loop : tie.InvT-loop
 Inv-loop buf₀ at w n left₀ p₀ buf left p = (sets buf p (bytes left n) ≡ sets buf₀ at (bytes w n)) × (p + left ≡ at + w) × (left ≤ w) × (length buf ≡ length buf₀)
@@ -19,47 +16,36 @@ Inv-loop buf₀ at w n left₀ p₀ buf left p = (sets buf p (bytes left n) ≡ 
 abbrev μ-loop : tie.MeasureT-loop
 μ-loop buf₀ at w n left₀ p₀ buf left p = left
 
--- src/put.rt:43:5
 loop-holds : tie.Need-loop-holds Inv-loop μ-loop
 loop-holds c = (refl, refl, omega arith, refl)
 
--- src/put.rt:44:16
 sub-left : tie.Need-sub-left Inv-loop μ-loop
 sub-left c = search needs
 
--- src/put.rt:45:23
 power-requires : tie.Need-power-requires Inv-loop μ-loop
 power-requires c κs = search needs
 
--- src/put.rt:45:19
 div-buf : tie.Need-div-buf Inv-loop μ-loop
 div-buf c = omega (arith, c .power .ensures, pow-pos (c .before .before .loop .left - 1))
 
--- src/put.rt:45:18
 cast-buf : tie.Need-cast-buf Inv-loop μ-loop
 cast-buf c = search needs
 
--- src/put.rt:45:9
 slice-write-buf : tie.Need-slice-write-buf Inv-loop μ-loop
 slice-write-buf c = search needs
 
--- src/put.rt:46:13
 add-p : tie.Need-add-p Inv-loop μ-loop
 add-p c = search needs
 
--- src/put.rt:43:5
 loop-less : tie.Need-loop-less Inv-loop μ-loop
 loop-less c = search needs
 
--- src/put.rt:43:5
 loop-again : tie.Need-loop-again Inv-loop μ-loop
 loop-again c = (stored (c .before .before .loop .buf) (c .before .before .loop .left) (c .before .before .loop .p) (c .before .before .before .before .args .n) (c .power .result) (c .before .loop-test .taken) (c .power .ensures) ∙ c .before .before .loop .inv .0, omega arith, omega arith, simp length-set (c .before .before .loop .inv .3))
 
--- src/put.rt:37:1
 same-length : tie.Need-same-length Inv-loop μ-loop
 same-length c = c .before .loop .inv .3
 
--- src/put.rt:37:1
 returns : tie.Need-returns Inv-loop μ-loop
 returns c = sym (none-left (c .before .loop .buf) (c .before .loop .left) (c .before .loop .p) (c .before .before .before .args .n) (omega arith)) ∙ c .before .loop .inv .0
 

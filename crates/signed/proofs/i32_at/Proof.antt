@@ -5,32 +5,22 @@ use Rattle.numbers.proofs.Chain.{has32, cut32}
 use borrow.Author.Needs.{needs}
 use Rattle.signed.proofs.i32_at.Statement.{statement}
 use Rattle.signed.proofs.i32_at.Tie as tie
-use Rattle.signed.proofs.i32_at.Reads as reads
-use Rattle.signed.proofs.i32_at.Lts as lts
-use Rattle.signed.proofs.of32.Reads as of32-reads
-use Rattle.numbers.proofs.u32_at.Reads as u32-at-reads
 
--- src/signed.rt:64:11
 u32-at-requires : tie.Need-u32-at-requires
 u32-at-requires c κs = search needs
 
--- src/signed.rt:65:17
 enum-known-n : tie.Need-enum-known-n
 enum-known-n c = search needs
 
--- src/signed.rt:65:31
 of32-requires : tie.Need-of32-requires
 of32-requires c κs = search needs
 
--- src/signed.rt:66:22
 enum-known-r : tie.Need-enum-known-r
 enum-known-r c = search needs
 
--- src/signed.rt:61:1
 returns : tie.Need-returns
 returns c = has32 4 _ _ _ (c .before .before .before .before .u32-at .ensures) _ _ _ _ (c .before .before .n .given .1) (ap Is (toZ-ofZ (record { sfits = c .of32 .ok }) ∙ c .of32 .ensures))
 
--- src/signed.rt:61:1
 returns-2 : tie.Need-returns-2
 returns-2 c = cut32 4 _ _ _ (c .before .before .before .u32-at .ensures) _ _ _ _ (c .before .r .given .1) refl
 

@@ -5,32 +5,22 @@ use Rattle.numbers.proofs.Chain.{has64, cut64}
 use borrow.Author.Needs.{needs}
 use Rattle.signed.proofs.i64_at.Statement.{statement}
 use Rattle.signed.proofs.i64_at.Tie as tie
-use Rattle.signed.proofs.i64_at.Reads as reads
-use Rattle.signed.proofs.i64_at.Lts as lts
-use Rattle.signed.proofs.of64.Reads as of64-reads
-use Rattle.numbers.proofs.u64_at.Reads as u64-at-reads
 
--- src/signed.rt:73:11
 u64-at-requires : tie.Need-u64-at-requires
 u64-at-requires c κs = search needs
 
--- src/signed.rt:74:17
 enum-known-n : tie.Need-enum-known-n
 enum-known-n c = search needs
 
--- src/signed.rt:74:31
 of64-requires : tie.Need-of64-requires
 of64-requires c κs = search needs
 
--- src/signed.rt:75:22
 enum-known-r : tie.Need-enum-known-r
 enum-known-r c = search needs
 
--- src/signed.rt:70:1
 returns : tie.Need-returns
 returns c = has64 8 _ _ _ (c .before .before .before .before .u64-at .ensures) _ _ _ _ (c .before .before .n .given .1) (ap Is (toZ-ofZ (record { sfits = c .of64 .ok }) ∙ c .of64 .ensures))
 
--- src/signed.rt:70:1
 returns-2 : tie.Need-returns-2
 returns-2 c = cut64 8 _ _ _ (c .before .before .before .u64-at .ensures) _ _ _ _ (c .before .r .given .1) refl
 

@@ -1,33 +1,26 @@
 use mathlib.Core.Path.{refl}
+use native.Mathlib.Omega.{arith}
 use mir.Syntax.{w16}
 use Rattle.signed.proofs.Signs.{low, high, high-fits}
 use borrow.Author.Needs.{needs}
 use Rattle.signed.proofs.of16.Statement.{statement}
 use Rattle.signed.proofs.of16.Tie as tie
-use Rattle.signed.proofs.of16.Reads as reads
-use Rattle.signed.proofs.of16.Lts as lts
 
--- src/signed.rt:29:16
 cast-result : tie.Need-cast-result
 cast-result c = search needs
 
--- src/signed.rt:29:9
 returns : tie.Need-returns
-returns c = low w16 2 refl _ (c .if1 .taken)
+returns c = low w16 2 refl (c .before .args .n) (omega arith)
 
--- src/signed.rt:31:12
 sub-result : tie.Need-sub-result
 sub-result c = search needs
 
--- src/signed.rt:31:11
 cast-result-2 : tie.Need-cast-result-2
 cast-result-2 c = search needs
 
--- src/signed.rt:31:5
 sub-result-2 : tie.Need-sub-result-2
 sub-result-2 c = high-fits w16 2 refl _ (c .if1 .left) (c .before .fits .n .fits)
 
--- src/signed.rt:25:1
 returns-2 : tie.Need-returns-2
 returns-2 c = high w16 2 refl _ (c .if1 .left) (c .before .fits .n .fits)
 

@@ -3,31 +3,22 @@ use Rattle.numbers.proofs.Chain.{lacks32, there32}
 use borrow.Author.Needs.{needs}
 use Rattle.types.proofs.letters.number_of.Statement.{statement}
 use Rattle.types.proofs.letters.number_of.Tie as tie
-use Rattle.types.proofs.letters.number_of.Reads as reads
-use Rattle.types.proofs.letters.number_of.Lts as lts
-use Rattle.numbers.proofs.u32_at.Reads as u32-at-reads
 
--- src/letters.rt:10:38
 slice-aggregate-u32-at : tie.Need-slice-aggregate-u32-at
 slice-aggregate-u32-at c = search needs
 
--- src/letters.rt:10:22
 u32-at-requires : tie.Need-u32-at-requires
 u32-at-requires c κs = search needs
 
--- src/letters.rt:10:17
 enum-known-n : tie.Need-enum-known-n
 enum-known-n c = search needs
 
--- src/letters.rt:11:9
 enum-told : tie.Need-enum-told
 enum-told c = search needs
 
--- src/letters.rt:11:9
 returns : tie.Need-returns
 returns c = absurd (omega (arith, lacks32 4 (c .before .before .before .before .args .t1) 0 _ (c .before .before .u32-at .ensures) _ (c .enum-told .given .1)))
 
--- src/letters.rt:6:1
 returns-2 : tie.Need-returns-2
 returns-2 c = there32 4 _ 0 _ (c .before .before .before .u32-at .ensures) _ (c .before .n .given .1) .1
 

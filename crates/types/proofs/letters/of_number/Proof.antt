@@ -2,26 +2,19 @@ use Rattle.numbers.proofs.Laws.{four}
 use borrow.Author.Needs.{needs}
 use Rattle.types.proofs.letters.of_number.Statement.{statement}
 use Rattle.types.proofs.letters.of_number.Tie as tie
-use Rattle.types.proofs.letters.of_number.Reads as reads
-use Rattle.types.proofs.letters.of_number.Lts as lts
 
--- src/letters.rt:15:9
 cast-t4 : tie.Need-cast-t4
 cast-t4 c = search needs
 
--- src/letters.rt:16:9
 cast-t7 : tie.Need-cast-t7
 cast-t7 c = search needs
 
--- src/letters.rt:17:9
 cast-t10 : tie.Need-cast-t10
 cast-t10 c = search needs
 
--- src/letters.rt:18:9
 cast-t12 : tie.Need-cast-t12
 cast-t12 c = search needs
 
--- src/letters.rt:11:1
 returns : tie.Need-returns
 returns c = four (c .args .n)
 

@@ -1,0 +1,7 @@
+pub mod Walks
+pub mod Forests
+pub mod Order
+pub mod Columns
+mod All
+mod Unique
+mod Vectors
