@@ -1,3 +1,4 @@
 pub mod Places
 pub mod Visits
 mod Unique
+mod Vectors

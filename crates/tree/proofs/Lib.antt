@@ -1,3 +1,4 @@
+pub mod Rows
 pub mod Walks
 pub mod Forests
 pub mod Order
