@@ -99,114 +99,70 @@ module _ (w : ℕ) (s : List ℕ) (at : ℕ) where
   untold-by true q e = let z : _≡_ {A = ℕ} 0 1 = cc in absurd (omega arith)
   untold-by false q e = (refl, cc)
 
-  module _ {U : Type 0} (told : U → Told) (is : ℕ → U) (refused : Refusal → U) (some : (n : ℕ) → told (is n) ≡ number n) (no : (q : Refusal) → told (refused q) ≡ none q) (r : U) (e : r ≡ field refused w s at is) where
-    seen : told r ≡ when (fits w s at) (number (be w s at)) (none (refusal 1 at))
-    unfolding field
-    seen =
-        ap told e ∙ through told (fits w s at) (is (be w s at)) (refused (refusal 1 at))
-        ∙ ap (λ a. when (fits w s at) a (told (refused (refusal 1 at)))) (some (be w s at))
-        ∙ ap (λ a. when (fits w s at) (number (be w s at)) a) (no (refusal 1 at))
+-- an enum that answers a number or a refusal, and what it told
+pub record Reader (U : Type 0) : Type 0 where
+  pub is : ℕ → U
+  pub refused : Refusal → U
+  pub told : U → Told
+  pub some : (n : ℕ) → told (is n) ≡ number n
+  pub no : (q : Refusal) → told (refused q) ≡ none q
 
-    -- it was read, so it was there
-    pub was-there : (n : ℕ) → r ≡ is n → (at + w ≤ length s) × (n ≡ be w s at)
-    was-there n f =
-        let t : (fits w s at ≡ true) × (n ≡ be w s at) = told-by (fits w s at) n (sym seen ∙ ap told f ∙ some n) in
-        (leb-true (at + w) (length s) (t .0), t .1)
+module _ {U : Type 0} (b : Reader U) (w : ℕ) (s : List ℕ) (at : ℕ) (r : U) (e : r ≡ field (b .refused) w s at (b .is)) where
+  seen : b .told r ≡ when (fits w s at) (number (be w s at)) (none (refusal 1 at))
+  unfolding field
+  seen =
+      ap (b .told) e ∙ through (b .told) (fits w s at) (b .is (be w s at)) (b .refused (refusal 1 at))
+      ∙ ap (λ a. when (fits w s at) a (b .told (b .refused (refusal 1 at)))) (b .some (be w s at))
+      ∙ ap (λ a. when (fits w s at) (number (be w s at)) a) (b .no (refusal 1 at))
 
-    pub was-cut : (q : Refusal) → r ≡ refused q → (length s < at + w) × (q ≡ refusal 1 at)
-    was-cut q f =
-        let t : (fits w s at ≡ false) × (q ≡ refusal 1 at) = untold-by (fits w s at) q (sym seen ∙ ap told f ∙ no q) in
-        (leb-false (at + w) (length s) (t .0), t .1)
+  -- it was read, so it was there
+  pub there : (n : ℕ) → r ≡ b .is n → (at + w ≤ length s) × (n ≡ be w s at)
+  there n f =
+      let t : (fits w s at ≡ true) × (n ≡ be w s at) = told-by w s at (fits w s at) n (sym seen ∙ ap (b .told) f ∙ b .some n) in
+      (leb-true (at + w) (length s) (t .0), t .1)
 
-    module _ {A : Type 0} (away : Refusal → A) (go : ℕ → A) (x : A) where
-      pub has : (n : ℕ) → r ≡ is n → x ≡ go n → x ≡ field away w s at go
-      has n f q = whole away go x n (was-there n f .0) (was-there n f .1) q
+  was-cut : (q : Refusal) → r ≡ b .refused q → (length s < at + w) × (q ≡ refusal 1 at)
+  was-cut q f =
+      let t : (fits w s at ≡ false) × (q ≡ refusal 1 at) = untold-by w s at (fits w s at) q (sym seen ∙ ap (b .told) f ∙ b .no q) in
+      (leb-false (at + w) (length s) (t .0), t .1)
 
-      pub has-not : (p : Refusal) → r ≡ refused p → x ≡ away p → x ≡ field away w s at go
-      has-not p f q = ends away go x (was-cut p f .0) (q ∙ ap away (was-cut p f .1))
+  -- it was refused, so it was cut
+  pub lacks : (q : Refusal) → r ≡ b .refused q → length s < at + w
+  lacks q f = was-cut q f .0
 
--- THE ENUMS: each reads as what it told, so the laws above serve it
+  module _ {A : Type 0} (away : Refusal → A) (go : ℕ → A) (x : A) where
+    pub has : (n : ℕ) → r ≡ b .is n → x ≡ go n → x ≡ field away w s at go
+    has n f q = whole w s at away go x n (there n f .0) (there n f .1) q
 
-told8 : U8 → Told
+    pub has-not : (q : Refusal) → r ≡ b .refused q → x ≡ away q → x ≡ field away w s at go
+    has-not q f o = ends w s at away go x (was-cut q f .0) (o ∙ ap away (was-cut q f .1))
+
+-- THE ENUMS
+
+abbrev told8 : U8 → Told
 told8 (u8.Is n) = number n
 told8 (u8.Refused q) = none q
 
-module _ (w : ℕ) (s : List ℕ) (at : ℕ) (r : U8) (e : r ≡ field u8.Refused w s at u8.Is) where
-  pub there8 : (n : ℕ) → r ≡ u8.Is n → (at + w ≤ length s) × (n ≡ be w s at)
-  unfolding told8
-  there8 = was-there w s at told8 u8.Is u8.Refused (λ n. refl) (λ q. refl) r e
+abbrev pub by8 : Reader U8
+by8 = record { is = u8.Is; refused = u8.Refused; told = told8; some = λ n. refl; no = λ q. refl }
 
-  pub lacks8 : (q : Refusal) → r ≡ u8.Refused q → length s < at + w
-  unfolding told8
-  lacks8 q f = was-cut w s at told8 u8.Is u8.Refused (λ n. refl) (λ q. refl) r e q f .0
-
-  pub has8 : {A : Type 0} (away : Refusal → A) (go : ℕ → A) (x : A) (n : ℕ) → r ≡ u8.Is n → x ≡ go n → x ≡ field away w s at go
-  unfolding told8
-  has8 = has w s at told8 u8.Is u8.Refused (λ n. refl) (λ q. refl) r e
-
-  pub cut8 : {A : Type 0} (away : Refusal → A) (go : ℕ → A) (x : A) (q : Refusal) → r ≡ u8.Refused q → x ≡ away q → x ≡ field away w s at go
-  unfolding told8
-  cut8 = has-not w s at told8 u8.Is u8.Refused (λ n. refl) (λ q. refl) r e
-
-told16 : U16 → Told
+abbrev told16 : U16 → Told
 told16 (u16.Is n) = number n
 told16 (u16.Refused q) = none q
 
-module _ (w : ℕ) (s : List ℕ) (at : ℕ) (r : U16) (e : r ≡ field u16.Refused w s at u16.Is) where
-  pub there16 : (n : ℕ) → r ≡ u16.Is n → (at + w ≤ length s) × (n ≡ be w s at)
-  unfolding told16
-  there16 = was-there w s at told16 u16.Is u16.Refused (λ n. refl) (λ q. refl) r e
+abbrev pub by16 : Reader U16
+by16 = record { is = u16.Is; refused = u16.Refused; told = told16; some = λ n. refl; no = λ q. refl }
 
-  pub lacks16 : (q : Refusal) → r ≡ u16.Refused q → length s < at + w
-  unfolding told16
-  lacks16 q f = was-cut w s at told16 u16.Is u16.Refused (λ n. refl) (λ q. refl) r e q f .0
-
-  pub has16 : {A : Type 0} (away : Refusal → A) (go : ℕ → A) (x : A) (n : ℕ) → r ≡ u16.Is n → x ≡ go n → x ≡ field away w s at go
-  unfolding told16
-  has16 = has w s at told16 u16.Is u16.Refused (λ n. refl) (λ q. refl) r e
-
-  pub cut16 : {A : Type 0} (away : Refusal → A) (go : ℕ → A) (x : A) (q : Refusal) → r ≡ u16.Refused q → x ≡ away q → x ≡ field away w s at go
-  unfolding told16
-  cut16 = has-not w s at told16 u16.Is u16.Refused (λ n. refl) (λ q. refl) r e
-
-told32 : U32 → Told
+abbrev told32 : U32 → Told
 told32 (u32.Is n) = number n
 told32 (u32.Refused q) = none q
 
-module _ (w : ℕ) (s : List ℕ) (at : ℕ) (r : U32) (e : r ≡ field u32.Refused w s at u32.Is) where
-  pub there32 : (n : ℕ) → r ≡ u32.Is n → (at + w ≤ length s) × (n ≡ be w s at)
-  unfolding told32
-  there32 = was-there w s at told32 u32.Is u32.Refused (λ n. refl) (λ q. refl) r e
+abbrev pub by32 : Reader U32
+by32 = record { is = u32.Is; refused = u32.Refused; told = told32; some = λ n. refl; no = λ q. refl }
 
-  pub lacks32 : (q : Refusal) → r ≡ u32.Refused q → length s < at + w
-  unfolding told32
-  lacks32 q f = was-cut w s at told32 u32.Is u32.Refused (λ n. refl) (λ q. refl) r e q f .0
-
-  pub has32 : {A : Type 0} (away : Refusal → A) (go : ℕ → A) (x : A) (n : ℕ) → r ≡ u32.Is n → x ≡ go n → x ≡ field away w s at go
-  unfolding told32
-  has32 = has w s at told32 u32.Is u32.Refused (λ n. refl) (λ q. refl) r e
-
-  pub cut32 : {A : Type 0} (away : Refusal → A) (go : ℕ → A) (x : A) (q : Refusal) → r ≡ u32.Refused q → x ≡ away q → x ≡ field away w s at go
-  unfolding told32
-  cut32 = has-not w s at told32 u32.Is u32.Refused (λ n. refl) (λ q. refl) r e
-
-told64 : U64 → Told
+abbrev told64 : U64 → Told
 told64 (u64.Is n) = number n
 told64 (u64.Refused q) = none q
 
-module _ (w : ℕ) (s : List ℕ) (at : ℕ) (r : U64) (e : r ≡ field u64.Refused w s at u64.Is) where
-  pub there64 : (n : ℕ) → r ≡ u64.Is n → (at + w ≤ length s) × (n ≡ be w s at)
-  unfolding told64
-  there64 = was-there w s at told64 u64.Is u64.Refused (λ n. refl) (λ q. refl) r e
-
-  pub lacks64 : (q : Refusal) → r ≡ u64.Refused q → length s < at + w
-  unfolding told64
-  lacks64 q f = was-cut w s at told64 u64.Is u64.Refused (λ n. refl) (λ q. refl) r e q f .0
-
-  pub has64 : {A : Type 0} (away : Refusal → A) (go : ℕ → A) (x : A) (n : ℕ) → r ≡ u64.Is n → x ≡ go n → x ≡ field away w s at go
-  unfolding told64
-  has64 = has w s at told64 u64.Is u64.Refused (λ n. refl) (λ q. refl) r e
-
-  pub cut64 : {A : Type 0} (away : Refusal → A) (go : ℕ → A) (x : A) (q : Refusal) → r ≡ u64.Refused q → x ≡ away q → x ≡ field away w s at go
-  unfolding told64
-  cut64 = has-not w s at told64 u64.Is u64.Refused (λ n. refl) (λ q. refl) r e
+abbrev pub by64 : Reader U64
+by64 = record { is = u64.Is; refused = u64.Refused; told = told64; some = λ n. refl; no = λ q. refl }

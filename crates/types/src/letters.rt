@@ -3,7 +3,9 @@ ghost use mathlib.Core.Path.{_≡_};
 ghost use Rattle.numbers.specs.Number.{be, bytes};
 use numbers::U32;
 
-pub fn number_of(letters: [u8; 4]) -> u32
+pub type Letters = [u8; 4];
+
+pub fn number_of(letters: Letters) -> u32
     ensures { λ r. ⌜ r ≡ be 4 letters 0 ⌝ }
 {
     // Four bytes are always all there.
@@ -13,7 +15,7 @@ pub fn number_of(letters: [u8; 4]) -> u32
     n
 }
 
-pub fn of_number(n: u32) -> [u8; 4]
+pub fn of_number(n: u32) -> Letters
     ensures { λ r. ⌜ r ≡ bytes 4 n ⌝ }
 {
     [

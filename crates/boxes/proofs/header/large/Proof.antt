@@ -1,5 +1,5 @@
 use mathlib.Core.Path.{refl}
-use Rattle.numbers.proofs.Chain.{ends, has32, lacks32, has64, lacks64}
+use Rattle.numbers.proofs.Chain.{ends, by32, by64, has, lacks}
 use borrow.Author.Needs.{needs}
 use Rattle.boxes.proofs.header.large.Statement.{statement}
 use Rattle.boxes.proofs.header.large.Tie as tie
@@ -20,7 +20,7 @@ add-t9 : tie.Need-add-t9
 add-t9 c = search needs
 
 returns : tie.Need-returns
-returns c = ends 4 _ _ _ _ _ (lacks32 4 _ _ _ (c .before .before .u32-at .ensures) _ (c .enum-told .given .1)) refl
+returns c = ends 4 _ _ _ _ _ (lacks by32 4 _ _ _ (c .before .before .u32-at .ensures) _ (c .enum-told .given .1)) refl
 
 add-u64-at : tie.Need-add-u64-at
 add-u64-at c = search needs
@@ -38,13 +38,13 @@ add-t12 : tie.Need-add-t12
 add-t12 c = search needs
 
 returns-2 : tie.Need-returns-2
-returns-2 c = has32 4 _ _ _ (c .before .before .before .before .before .before .u32-at .ensures) _ _ _ _ (c .before .before .before .before .kind .given .1) (ends 8 _ _ _ _ _ (lacks64 8 _ _ _ (c .before .before .u64-at .ensures) _ (c .enum-told2 .given .1)) refl)
+returns-2 c = has by32 4 _ _ _ (c .before .before .before .before .before .before .u32-at .ensures) _ _ _ _ (c .before .before .before .before .kind .given .1) (ends 8 _ _ _ _ _ (lacks by64 8 _ _ _ (c .before .before .u64-at .ensures) _ (c .enum-told2 .given .1)) refl)
 
 judged-requires : tie.Need-judged-requires
 judged-requires c κs = search needs
 
 returns-3 : tie.Need-returns-3
-returns-3 c = has32 4 _ _ _ (c .before .before .before .before .before .before .before .before .u32-at .ensures) _ _ _ _ (c .before .before .before .before .before .before .kind .given .1) (has64 8 _ _ _ (c .before .before .before .before .u64-at .ensures) _ _ _ _ (c .before .before .n .given .1) (c .judged .ensures))
+returns-3 c = has by32 4 _ _ _ (c .before .before .before .before .before .before .before .before .u32-at .ensures) _ _ _ _ (c .before .before .before .before .before .before .kind .given .1) (has by64 8 _ _ _ (c .before .before .before .before .u64-at .ensures) _ _ _ _ (c .before .before .n .given .1) (c .judged .ensures))
 
 pub large-spec : {M : Type 1} → statement M
 large-spec =

@@ -1,5 +1,5 @@
 use mathlib.Core.Path.{refl}
-use Rattle.numbers.proofs.Chain.{has32, cut32}
+use Rattle.numbers.proofs.Chain.{by32, has, has-not}
 use borrow.Author.Needs.{needs}
 use Rattle.boxes.proofs.header.typed.Statement.{statement}
 use Rattle.boxes.proofs.header.typed.Tie as tie
@@ -17,10 +17,10 @@ enum-known-kind : tie.Need-enum-known-kind
 enum-known-kind c = search needs
 
 returns : tie.Need-returns
-returns c = cut32 4 _ _ _ (c .before .before .before .u32-at .ensures) _ _ _ _ (c .before .r .given .1) refl
+returns c = has-not by32 4 _ _ _ (c .before .before .before .u32-at .ensures) _ _ _ _ (c .before .r .given .1) refl
 
 returns-2 : tie.Need-returns-2
-returns-2 c = has32 4 _ _ _ (c .before .before .before .u32-at .ensures) _ _ _ _ (c .before .kind .given .1) refl
+returns-2 c = has by32 4 _ _ _ (c .before .before .before .u32-at .ensures) _ _ _ _ (c .before .kind .given .1) refl
 
 pub typed-spec : {M : Type 1} → statement M
 typed-spec =

@@ -1,5 +1,5 @@
 use native.Mathlib.Omega.{arith}
-use Rattle.numbers.proofs.Chain.{lacks32, there32}
+use Rattle.numbers.proofs.Chain.{by32, lacks, there}
 use borrow.Author.Needs.{needs}
 use Rattle.types.proofs.letters.number_of.Statement.{statement}
 use Rattle.types.proofs.letters.number_of.Tie as tie
@@ -17,10 +17,10 @@ enum-told : tie.Need-enum-told
 enum-told c = search needs
 
 returns : tie.Need-returns
-returns c = absurd (omega (arith, lacks32 4 (c .before .before .before .before .args .t1) 0 _ (c .before .before .u32-at .ensures) _ (c .enum-told .given .1)))
+returns c = absurd (omega (arith, lacks by32 4 (c .before .before .before .before .args .t1) 0 _ (c .before .before .u32-at .ensures) _ (c .enum-told .given .1)))
 
 returns-2 : tie.Need-returns-2
-returns-2 c = there32 4 _ 0 _ (c .before .before .before .u32-at .ensures) _ (c .before .n .given .1) .1
+returns-2 c = there by32 4 _ 0 _ (c .before .before .before .u32-at .ensures) _ (c .before .n .given .1) .1
 
 pub number-of-spec : {M : Type 1} → statement M
 number-of-spec =
