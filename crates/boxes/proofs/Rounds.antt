@@ -17,7 +17,7 @@ use Rattle.numbers.specs.declared.Refusal.{Refusal}
 use Rattle.numbers.proofs.Laws.{Bytes, be-bytes, bytes-be, be-below, length-bytes}
 use Rattle.numbers.proofs.Chain.{whole, way, field-way, is-eq, is-ne, is-lt, not-lt, is-le, by-true}
 use Rattle.put.specs.Put.{Wrote, wrote, placed}
-use Rattle.put.specs.declared.Put.{Put}
+use Rattle.put.proofs.Placed.{Placed, placed-done}
 use Rattle.put.specs.declared.Put.the-variants as put
 use Rattle.boxes.specs.Header.{header, within, typedOf, largeOf, headerOf, plainBytes, largeBytes, headerIn, lengthFor, canonical}
 use Rattle.boxes.specs.Full.{fullOf, fullIn}
@@ -39,28 +39,10 @@ reads-at w n pre post buf at h b =
     let l : length (take at buf ++ pre) ≡ at + length pre = length-append (take at buf) pre ∙ ap (λ k. k + length pre) (length-take-le at buf (omega arith)) in
     ap₂ (λ (x : List ℕ) (k : ℕ). be w x k) s (sym l) ∙ be-bytes w n (take at buf ++ pre) (post ++ rest) ∙ mod-eq-of-lt b
 
--- what was placed where it was done
-pub record Done (bs : List ℕ) (w at : ℕ) (buf : List ℕ) (p : ℕ) (out : List ℕ) : Type 0 where
-  pub room : at + w ≤ length buf
-  pub next : p ≡ at + w
-  pub bytes : out ≡ sets buf at bs
-  pub long : length out ≡ length buf
-
-pub placed-done : (bs : List ℕ) (w at : ℕ) (buf : List ℕ) (p : ℕ) (out : List ℕ) → placed bs w at buf ≡ wrote (put.Done p) out → Done bs w at buf p out
-placed-done bs w at buf p out e =
-    ⊎-elim
-    (λ y.
-    let o : out ≡ sets buf at bs = cc (y .1) in
-    let n : p ≡ at + w = cc (y .1) in
-    record { room = leb-true (at + w) (length buf) (y .0); next = n; bytes = o; long = ap length o ∙ length-sets buf at bs })
-    (λ y. ⊎-elim (λ v. let z : _≡_ {A = ℕ} 0 1 = cc (v .1) in absurd (omega arith)) (λ v. let z : _≡_ {A = ℕ} 0 1 = cc (v .1) in absurd (omega arith))
-    (way (ltb (at + w) (2 ^ 64)) _ _ _ (y .1)))
-    (way (fits w buf at) _ _ _ e)
-
 -- WRITTEN, THEN READ
 
 module _ (kind size at : ℕ) (buf out : List ℕ) (p : ℕ) (top : Bool) (k : kind < 2 ^ 32) (z : size < 2 ^ 64) where
-  plain-back : Done (plainBytes kind size) 8 at buf p out → 8 ≤ size → size < 2 ^ 32 → at + size ≤ length out → headerOf out at top ≡ Is (header kind size 8)
+  plain-back : Placed (plainBytes kind size) 8 at buf p out → 8 ≤ size → size < 2 ^ 32 → at + size ≤ length out → headerOf out at top ≡ Is (header kind size 8)
   plain-back d a b r =
       let l : at + length (plainBytes kind size) ≤ length buf =
       omega (arith, d .room, length-append (bytes 4 size) (bytes 4 kind), length-bytes 4 size, length-bytes 4 kind) in
@@ -78,7 +60,7 @@ module _ (kind size at : ℕ) (buf out : List ℕ) (p : ℕ) (top : Bool) (k : k
       (not-lt _ _ _ size 8 a
       (whole 4 out (at + 4) Refused _ _ kind (omega (arith, d .room, d .long)) (sym c) refl))))))
 
-  large-back : Done (largeBytes kind size) 16 at buf p out → 2 ^ 32 ≤ size → at + size ≤ length out → headerOf out at top ≡ Is (header kind size 16)
+  large-back : Placed (largeBytes kind size) 16 at buf p out → 2 ^ 32 ≤ size → at + size ≤ length out → headerOf out at top ≡ Is (header kind size 16)
   large-back d a r =
       let la : length (bytes 4 1 ++ bytes 4 kind) ≡ 8 = length-append (bytes 4 1) (bytes 4 kind) ∙ ap₂ (λ (i j : ℕ). i + j) (length-bytes 4 1) (length-bytes 4 kind) in
       let l : at + length (largeBytes kind size) ≤ length buf =
@@ -110,12 +92,12 @@ module _ (kind size at : ℕ) (buf out : List ℕ) (p : ℕ) (top : Bool) (k : k
       ⊎-elim
       (λ v.
       let b : size < 2 ^ 32 = ltb-true size (2 ^ 32) (v .0) in
-      let d : Done (plainBytes kind size) 8 at buf p out = placed-done (plainBytes kind size) 8 at buf p out (v .1) in
+      let d : Placed (plainBytes kind size) 8 at buf p out = placed-done (plainBytes kind size) 8 at buf p out (v .1) in
       let w : _≡_ {A = ℕ} 8 (lengthFor size) = is-lt _ _ _ size (2 ^ 32) b refl in
       (plain-back d a b r ∙ ap (λ i. Is (header kind size i)) w, d .next ∙ ap (λ i. at + i) w))
       (λ v.
       let b : 2 ^ 32 ≤ size = ltb-false size (2 ^ 32) (v .0) in
-      let d : Done (largeBytes kind size) 16 at buf p out = placed-done (largeBytes kind size) 16 at buf p out (v .1) in
+      let d : Placed (largeBytes kind size) 16 at buf p out = placed-done (largeBytes kind size) 16 at buf p out (v .1) in
       let w : _≡_ {A = ℕ} 16 (lengthFor size) = not-lt _ _ _ size (2 ^ 32) b refl in
       (large-back d b r ∙ ap (λ i. Is (header kind size i)) w, d .next ∙ ap (λ i. at + i) w))
       (way (ltb size (2 ^ 32)) _ _ _ (y .1)))
@@ -220,7 +202,7 @@ full-back v f at buf out p a e =
     ⊎-elim
     (λ y.
     let b : f < 2 ^ 24 = ltb-true f (2 ^ 24) (y .0) in
-    let d : Done (bytes 1 v ++ bytes 3 f) 4 at buf p out = placed-done (bytes 1 v ++ bytes 3 f) 4 at buf p out (y .1) in
+    let d : Placed (bytes 1 v ++ bytes 3 f) 4 at buf p out = placed-done (bytes 1 v ++ bytes 3 f) 4 at buf p out (y .1) in
     let l : at + length (bytes 1 v ++ bytes 3 f) ≤ length buf =
     omega (arith, d .room, length-append (bytes 1 v) (bytes 3 f), length-bytes 1 v, length-bytes 3 f) in
     let n : be 1 out at ≡ v = ap₂ (λ (x : List ℕ) (i : ℕ). be 1 x i) (d .bytes) (sym (add-zero at)) ∙ reads-at 1 v [] (bytes 3 f) buf at l a in

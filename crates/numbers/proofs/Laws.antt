@@ -2,7 +2,7 @@
 use mathlib.Core.Path.{_≡_, refl, sym, ap, ap₂, _∙_}
 use mathlib.Core.List.{List, [], _∷_, _++_, append-assoc, append-nil}
 use Prim.Native.Nat.{ℕ, zero, suc, _+_, _*_, _-_, _/_, _%_, _^_, _≤_, _<_}
-use native.Mathlib.Nat.{pow-zero, pow-suc, mul-one, add-zero, zero-mul, zero-add, suc-add, add-mul, mul-assoc, add-assoc, pow-le-pow-right, one-le-pow, div-add-mod', mul-comm, mod-lt, mod-one, mul-le-mul-right, mod-eq-of-lt, mul-add-mod-self-right, mul-add-div-right, div-eq-of-lt, div-one}
+use native.Mathlib.Nat.{pow-zero, pow-suc, mul-one, add-zero, zero-mul, zero-add, suc-add, add-mul, mul-assoc, add-assoc, pow-le-pow-right, one-le-pow, div-add-mod', mul-comm, mod-lt, mod-one, mul-le-mul-right, mod-eq-of-lt, mul-add-mod-self-right, mul-add-div-right, div-eq-of-lt, div-one, div-div-eq-div-mul}
 use native.Mathlib.Numerals.{add-one}
 use native.Mathlib.Omega.{arith}
 use lib.ListN.{length, getD, take, drop, length-append}
@@ -127,3 +127,15 @@ of-bytes w n h = ap (λ l. be w l 0) (sym (append-nil (bytes w n))) ∙ be-bytes
 
 pub to-bytes : (w : ℕ) (s : List ℕ) → Bytes s → length s ≡ w → bytes w (be w s 0) ≡ s
 to-bytes w s h e = bytes-be w s 0 h (omega arith) ∙ take-all w s (omega arith)
+
+-- m bytes of a and n bytes of b are the m + n bytes of one number
+pub bytes-join : (m n a b : ℕ) → b < 256 ^ n → bytes (m + n) (a * 256 ^ n + b) ≡ bytes m a ++ bytes n b
+unfolding bytes
+bytes-join zero n a b h = ap (λ k. bytes k (a * 256 ^ n + b)) (zero-add n) ∙ higher n a b
+bytes-join (suc m) n a b h =
+    let q : (a * 256 ^ n + b) / 256 ^ n ≡ a = mul-add-div-right (pow-pos n) a b ∙ ap (λ k. a + k) (div-eq-of-lt h) ∙ add-zero a in
+    let p : 256 ^ (m + n) ≡ 256 ^ n * 256 ^ m = pow-add 256 m n ∙ mul-comm (256 ^ m) (256 ^ n) in
+    let d : (a * 256 ^ n + b) / 256 ^ (m + n) ≡ a / 256 ^ m =
+    ap (λ k. (a * 256 ^ n + b) / k) p ∙ sym (div-div-eq-div-mul (a * 256 ^ n + b) (256 ^ n) (256 ^ m)) ∙ ap (λ k. k / 256 ^ m) q in
+    ap (λ k. bytes k (a * 256 ^ n + b)) (suc-add m n)
+    ∙ ap₂ (λ (x : ℕ) (l : List ℕ). (x % 256) ∷ l) d (bytes-join m n a b h)

@@ -1,4 +1,5 @@
 pub mod Stores
+pub mod Placed
 pub mod Laws
-mod Vectors
 mod Unique
+mod Vectors

@@ -2,6 +2,7 @@
 use mathlib.Core.Path.{_≡_}
 use denote.Ref.{now}
 use Rattle.put.proofs.number.Reads as number
+use Rattle.put.proofs.part.Reads as part
 use Rattle.put.proofs.u8_at.Reads as u8-at
 use Rattle.put.proofs.u16_at.Reads as u16-at
 use Rattle.put.proofs.u24_at.Reads as u24-at
@@ -25,3 +26,6 @@ u32-at-fixed κs a r q s t p o = (cc, cc)
 
 u64-at-fixed : (κs : _) (a : _) (r q : _) (s t : _) → u64-at.Post κs a r s → u64-at.Post κs a q t → (r ≡ q) × (now (s .0) ≡ now (t .0))
 u64-at-fixed κs a r q s t p o = (cc, cc)
+
+part-fixed : (κs : _) (a : _) (r q : _) (s t : _) → part.Post κs a r s → part.Post κs a q t → (r ≡ q) × (now (s .0) ≡ now (t .0))
+part-fixed κs a r q s t p o = (cc, cc)

@@ -5,7 +5,7 @@ ghost use lib.ListN.{length};
 ghost use lib.Seq.{sets};
 ghost use lib.Dec.{ltb};
 ghost use Rattle.numbers.specs.Number.{bytes};
-ghost use Rattle.put.specs.Put.{wrote, putOf};
+ghost use Rattle.put.specs.Put.{wrote, placed, putOf};
 use numbers::Refusal;
 
 // The position after what was written, or why nothing was.
@@ -120,4 +120,37 @@ pub fn u64_at(buf: &mut [u8], at: usize, n: u64) -> Put
     ensures { λ r. ⌜ wrote r (now (buf .exit)) ≡ putOf 8 n at (now (buf .entry)) ⌝ }
 {
     number(buf, at, 8, n)
+}
+
+// The bytes of `part` from `at` on.
+fn copy(buf: &mut [u8], at: usize, part: &[u8])
+    requires { ⌜ at + length (now part) ≤ length (now buf) ⌝ }
+    ensures { λ r. ⌜ now (buf .exit) ≡ sets (now (buf .entry)) at (now (part .entry)) ⌝ }
+{
+    let mut i = 0;
+    while i < part.len() {
+        buf[at + i] = part[i];
+        i = i + 1;
+    }
+}
+
+// The bytes of another slice, at `at`.
+pub fn part(buf: &mut [u8], at: usize, part: &[u8]) -> Put
+    ensures { λ r. ⌜ wrote r (now (buf .exit)) ≡ placed (now (part .entry)) (length (now (part .entry))) at (now (buf .entry)) ⌝ }
+{
+    if 0xffff_ffff_ffff_ffff - part.len() < at {
+        return Put::Refused(Refusal {
+            number: 9,
+            detail: 0,
+        });
+    }
+    let after = at + part.len();
+    if buf.len() < after {
+        return Put::Refused(Refusal {
+            number: 12,
+            detail: after,
+        });
+    }
+    copy(buf, at, part);
+    Put::Done(after)
 }

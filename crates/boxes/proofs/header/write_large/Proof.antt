@@ -5,7 +5,9 @@ use native.Mathlib.Omega.{arith}
 use Rattle.numbers.specs.Number.{bytes}
 use Rattle.put.specs.Put.{placed}
 use Rattle.boxes.specs.Header.{largeBytes}
-use Rattle.boxes.proofs.Written.{bytes-join, two, no-sum, no-room}
+use Rattle.boxes.proofs.Written.{two}
+use Rattle.numbers.proofs.Laws.{bytes-join}
+use Rattle.put.proofs.Placed.{no-sum, no-room}
 use borrow.Author.Needs.{needs}
 use Rattle.boxes.proofs.header.write_large.Statement.{statement}
 use Rattle.boxes.proofs.header.write_large.Tie as tie
