@@ -104,14 +104,14 @@ loop-less c = search needs
 loop-again : tie.Need-loop-again Inv-loop μ-loop
 loop-again c = let h = width-of _ _ _ _ (c .before .before .before .before .before .before .before .before .before .before .before .rule-of .ensures) in
     let stored = laid _ _ _ _ _ (c .before .before .before .before .before .before .before .before .before .before .before .rule-of .ensures) (c .before .before .before .before .before .before .if2 .left) (c .before .before .before .before .before .before .before .before .before .before .before .before .before .before .loop .len) (c .before .before .before .before .before .before .before .before .before .before .before .before .before .before .loop .bytes) _ _ (omega (arith, c .before .before .before .before .before .before .before .before .before .before .before .before .before .before .loop .inv .4)) (c .before .before .before .before .number .ensures) in (
-  further (c .before .before .before .before .before .before .before .before .before .before .before .before .before .before .before .args .t1) _ (c .before .before .before .before .before .before .before .before .before .before .before .before .before .before .before .args .t2) (c .before .before .before .before .before .before .before .before .before .before .before .before .before .before .loop .i) (c .before .before .before .before .before .before .before .before .before .before .before .before .before .before .loop .slot) (c .before .before .before .before .before .before .before .before .before .before .before .before .before .before .loop .version) (c .before .before .before .before .before .before .before .before .before .before .before .before .before .before .loop .flags) (c .before .before .before .before .before .before .before .before .before .before .before .before .before .before .loop .bytes) (c .before .before .before .before .before .before .before .before .before .before .before .before .before .before .loop .len) (c .before .before .before .before .before .before .before .before .before .before .before .rule-of .result) (c .before .before .before .before .before .before .before .before .before .before .choose .result) (search needs) (c .before .before .before .before .before .before .before .before .before .before .before .rule-of .ensures) (c .before .before .before .before .before .before .before .before .before .before .choose .ensures) (c .before .before .before .before .before .before .before .before .if1 .left) (c .before .before .before .before .before .before .if2 .left) _ _ _ _ stored
-      (⊎-elim (λ w. by-true _ _ _ _ (w .0 .taken) (w .1)) (λ w. by-false _ _ _ _ (w .0 .left) (w .1)) (c .before .before .if3 .came))
-      (c .before .choose2 .ensures) (c .choose3 .ensures) ∙ c .before .before .before .before .before .before .before .before .before .before .before .before .before .before .loop .inv .0,
-  omega arith,
-  ⊎-elim (λ w. omega arith) (λ w. omega arith) (c .before .before .if3 .came),
-  omega arith,
-  ap length stored ∙ simp length-sets (c .before .before .before .before .before .before .before .before .before .before .before .before .before .before .loop .inv .4),
-)
+      further (c .before .before .before .before .before .before .before .before .before .before .before .before .before .before .before .args .t1) _ (c .before .before .before .before .before .before .before .before .before .before .before .before .before .before .before .args .t2) (c .before .before .before .before .before .before .before .before .before .before .before .before .before .before .loop .i) (c .before .before .before .before .before .before .before .before .before .before .before .before .before .before .loop .slot) (c .before .before .before .before .before .before .before .before .before .before .before .before .before .before .loop .version) (c .before .before .before .before .before .before .before .before .before .before .before .before .before .before .loop .flags) (c .before .before .before .before .before .before .before .before .before .before .before .before .before .before .loop .bytes) (c .before .before .before .before .before .before .before .before .before .before .before .before .before .before .loop .len) (c .before .before .before .before .before .before .before .before .before .before .before .rule-of .result) (c .before .before .before .before .before .before .before .before .before .before .choose .result) (search needs) (c .before .before .before .before .before .before .before .before .before .before .before .rule-of .ensures) (c .before .before .before .before .before .before .before .before .before .before .choose .ensures) (c .before .before .before .before .before .before .before .before .if1 .left) (c .before .before .before .before .before .before .if2 .left) _ _ _ _ stored
+          (⊎-elim (λ w. by-true _ _ _ _ (w .0 .taken) (w .1)) (λ w. by-false _ _ _ _ (w .0 .left) (w .1)) (c .before .before .if3 .came))
+          (c .before .choose2 .ensures) (c .choose3 .ensures) ∙ c .before .before .before .before .before .before .before .before .before .before .before .before .before .before .loop .inv .0,
+      omega arith,
+      ⊎-elim (λ w. omega arith) (λ w. omega arith) (c .before .before .if3 .came),
+      omega arith,
+      ap length stored ∙ simp length-sets (c .before .before .before .before .before .before .before .before .before .before .before .before .before .before .loop .inv .4),
+    )
 
 -- src/write.rt:40:1
 returns-3 : tie.Need-returns-3 Inv-loop μ-loop

@@ -1,0 +1,4 @@
+pub mod MfhdLaws
+mod Unique
+pub mod TfdtLaws
+pub mod TfhdLaws

@@ -1,0 +1,20 @@
+-- Each promise fixes one answer, and the buffer with it: two that meet it are equal. Stated on the promise itself.
+-- Assumes nothing.
+use mathlib.Core.Path.{_≡_, sym, _∙_}
+use denote.Ref.{now}
+use Rattle.movie.proofs.trex.read.Reads as trex-read
+use Rattle.movie.proofs.trex.write.Reads as trex-write
+use Rattle.movie.proofs.mdhd.read.Reads as mdhd-read
+use Rattle.movie.proofs.mdhd.write.Reads as mdhd-write
+
+mdhd-read-fixed : (κs : _) (a : _) (r q : _) (s t : _) → mdhd-read.Post κs a r s → mdhd-read.Post κs a q t → r ≡ q
+mdhd-read-fixed κs a r q s t p o = p ∙ sym o
+
+mdhd-write-fixed : (κs : _) (a : _) (r q : _) (s t : _) → mdhd-write.Post κs a r s → mdhd-write.Post κs a q t → (r ≡ q) × (now (s .1 .0) ≡ now (t .1 .0))
+mdhd-write-fixed κs a r q s t p o = (cc, cc)
+
+trex-read-fixed : (κs : _) (a : _) (r q : _) (s t : _) → trex-read.Post κs a r s → trex-read.Post κs a q t → r ≡ q
+trex-read-fixed κs a r q s t p o = p ∙ sym o
+
+trex-write-fixed : (κs : _) (a : _) (r q : _) (s t : _) → trex-write.Post κs a r s → trex-write.Post κs a q t → (r ≡ q) × (now (s .1 .0) ≡ now (t .1 .0))
+trex-write-fixed κs a r q s t p o = (cc, cc)

@@ -1,0 +1,2 @@
+pub mod TkhdLaws
+mod Unique

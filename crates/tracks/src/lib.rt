@@ -1,0 +1,2 @@
+// Boxes of a track, one module a box.
+pub mod tkhd;
