@@ -1,3 +1,4 @@
 pub mod Signs
+pub mod Fields
 mod Vectors
 mod Unique

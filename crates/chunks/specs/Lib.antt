@@ -1,0 +1,2 @@
+pub mod Stco
+pub mod Co64

@@ -1,0 +1,3 @@
+// The tables of chunk offsets, one module a box.
+pub mod co64;
+pub mod stco;

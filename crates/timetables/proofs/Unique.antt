@@ -1,0 +1,28 @@
+-- Each promise fixes one answer, and the buffer with it: two that meet it are equal. Stated on the promise itself.
+-- Assumes nothing.
+use mathlib.Core.Path.{_≡_, sym, _∙_}
+use denote.Ref.{now}
+use Rattle.timetables.proofs.ctts.read.Reads as ctts-read
+use Rattle.timetables.proofs.ctts.write.Reads as ctts-write
+use Rattle.timetables.proofs.ctts.entry.Reads as ctts-entry
+use Rattle.timetables.proofs.stts.read.Reads as stts-read
+use Rattle.timetables.proofs.stts.write.Reads as stts-write
+use Rattle.timetables.proofs.stts.entry.Reads as stts-entry
+
+stts-read-fixed : (κs : _) (a : _) (r q : _) (s t : _) → stts-read.Post κs a r s → stts-read.Post κs a q t → r ≡ q
+stts-read-fixed κs a r q s t p o = p ∙ sym o
+
+stts-write-fixed : (κs : _) (a : _) (r q : _) (s t : _) → stts-write.Post κs a r s → stts-write.Post κs a q t → (r ≡ q) × (now (s .1 .1 .0) ≡ now (t .1 .1 .0))
+stts-write-fixed κs a r q s t p o = (cc, cc)
+
+stts-entry-fixed : (κs : _) (a : _) (r q : _) (s t : _) → stts-entry.Post κs a r s → stts-entry.Post κs a q t → r ≡ q
+stts-entry-fixed κs a r q s t p o = p ∙ sym o
+
+ctts-read-fixed : (κs : _) (a : _) (r q : _) (s t : _) → ctts-read.Post κs a r s → ctts-read.Post κs a q t → r ≡ q
+ctts-read-fixed κs a r q s t p o = p ∙ sym o
+
+ctts-write-fixed : (κs : _) (a : _) (r q : _) (s t : _) → ctts-write.Post κs a r s → ctts-write.Post κs a q t → (r ≡ q) × (now (s .1 .1 .0) ≡ now (t .1 .1 .0))
+ctts-write-fixed κs a r q s t p o = (cc, cc)
+
+ctts-entry-fixed : (κs : _) (a : _) (r q : _) (s t : _) → ctts-entry.Post κs a r s → ctts-entry.Post κs a q t → r ≡ q
+ctts-entry-fixed κs a r q s t p o = p ∙ sym o

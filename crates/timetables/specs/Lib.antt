@@ -1,0 +1,2 @@
+pub mod Stts
+pub mod Ctts

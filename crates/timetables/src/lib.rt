@@ -1,0 +1,3 @@
+// The tables of decoding and composition times, one module a box.
+pub mod ctts;
+pub mod stts;
