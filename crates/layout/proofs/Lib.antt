@@ -1,3 +1,4 @@
 pub mod Cases
 pub mod Tables
 pub mod Writes
+mod Unique
