@@ -42,15 +42,27 @@ sound kind fs xs size v rows buf k out e = by (eqb (length rows) size) refl v e
     by true q (Wrong r) e = let z : _≡_ {A = ℕ} 0 1 = cc in absurd (omega arith)
     by false q v e = let z : _≡_ {A = ℕ} 0 1 = cc in absurd (omega arith)
 
+-- a verdict that is known settles the answer
+pub settles : {R : Type 0} (r : R) (away : Refusal → R) (v j : Judged) → j ≡ v → j ≡ Fine → (a : R) → a ≡ r → a ≡ settle r away v
+settles r away v j e f a h = h ∙ sym (ap (settle r away) (sym e ∙ f))
+
+pub unsettles : {R : Type 0} (r : R) (away : Refusal → R) (v j : Judged) → j ≡ v → (q : Refusal) → j ≡ Wrong q → (a : R) → a ≡ away q → a ≡ settle r away v
+unsettles r away v j e q f a h = h ∙ sym (ap (settle r away) (sym e ∙ f))
+
 module _ {M : Type 0} {R : Type 0} (is : M → ℕ → R) (refused : Refusal → R) (from : List ℕ → M) (judge : M → List ℕ → ℕ → Judged) (b : List ℕ) where
   pub judged-no : (g f : Fields) → g ≡ f → (g .number ≡ 0 → ⊥) → refused (refusal (g .number) (g .place)) ≡ judgedOf is refused from judge b f
   unfolding when
   judged-no g f e h = sym (simp (ne-eqb (g .number) 0 h)) ∙ ap (judgedOf is refused from judge b) e
 
-  pub judged-is : (g f : Fields) → g ≡ f → g .number ≡ 0 → (j : Judged) → j ≡ judge (from (g .values)) (take (g .end) b) (g .place) → (r : R) →
-      r ≡ settle (is (from (g .values)) (g .place)) refused j → r ≡ judgedOf is refused from judge b f
+  pub judged-is : (g f : Fields) → g ≡ f → g .number ≡ 0 → (j : Judged) → j ≡ judge (from (g .values)) (take (g .end) b) (g .place) → j ≡ Fine →
+      is (from (g .values)) (g .place) ≡ judgedOf is refused from judge b f
   unfolding when
-  judged-is g f e h j q r a = a ∙ sym (simp (eq-eqb (g .number) 0 h, ← q)) ∙ ap (judgedOf is refused from judge b) e
+  judged-is g f e h j q v = sym (simp (eq-eqb (g .number) 0 h, ← q, v)) ∙ ap (judgedOf is refused from judge b) e
+
+  pub judged-wrong : (g f : Fields) → g ≡ f → g .number ≡ 0 → (j : Judged) → j ≡ judge (from (g .values)) (take (g .end) b) (g .place) → (r : Refusal) → j ≡ Wrong r →
+      refused r ≡ judgedOf is refused from judge b f
+  unfolding when
+  judged-wrong g f e h j q r v = sym (simp (eq-eqb (g .number) 0 h, ← q, v)) ∙ ap (judgedOf is refused from judge b) e
 
   pub fine-of : (f : Fields) → f .number ≡ 0 → (m : M) (p : ℕ) → ((r : Refusal) → refused r ≡ is m p → ⊥) → judgedOf is refused from judge b f ≡ is m p →
       (judge (from (f .values)) (take (f .end) b) (f .place) ≡ Fine) × (is (from (f .values)) (f .place) ≡ is m p)
@@ -75,7 +87,7 @@ module _ {M : Type 0} {R : Type 0} (is : M → ℕ → R) (refused : Refusal →
       move m (p .0) (take k out) (omega (arith, p .3)) ∙ ap (λ l. moved (p .0) (judge m l 0)) (p .2) ∙ moved-fine (p .0) (judge m rows 0) (a .1) in
       let c : judge (from (g .values)) (take (length o) o) (p .0) ≡ Fine = ap₂ (λ (m : M) (l : List ℕ). judge m l (p .0)) (ft m) (take-length o) ∙ j in (
         p .0,
-        sym (judged-is is refused from judge (take k out) g (readOf kind fs (take k out)) (sym (p .1)) refl Fine (sym c) (is (from (g .values)) (p .0)) refl) ∙ ap (λ m. is m (p .0)) (ft m),
+        sym (judged-is is refused from judge (take k out) g (readOf kind fs (take k out)) (sym (p .1)) refl Fine (sym c) refl) ∙ ap (λ m. is m (p .0)) (ft m),
         p .2,
       )
 

@@ -8,8 +8,6 @@ use lib.Seq.{sets}
 use Rattle.put.proofs.Stores.{copied, all-copied}
 use Rattle.put.proofs.copy.Statement.{statement}
 use Rattle.put.proofs.copy.Tie as tie
-use Rattle.put.proofs.copy.Reads as reads
-use Rattle.put.proofs.copy.Lts as lts
 
 abbrev Inv-loop : tie.InvT-loop
 Inv-loop buf₀ at part i₀ buf i = (sets buf (at + i) (drop i part) ≡ sets buf₀ at part) × (i ≤ length part) × (length buf ≡ length buf₀)
@@ -17,39 +15,30 @@ Inv-loop buf₀ at part i₀ buf i = (sets buf (at + i) (drop i part) ≡ sets b
 abbrev μ-loop : tie.MeasureT-loop
 μ-loop buf₀ at part i₀ buf i = length part - i
 
--- src/lib.rt:131:5
 loop-holds : tie.Need-loop-holds Inv-loop μ-loop
 loop-holds c = (ap (λ n. sets (c .args .buf .now) n (c .args .part .now)) (add-zero (c .args .at)), omega arith, refl)
 
--- src/lib.rt:132:23
 shared-slice-read-buf : tie.Need-shared-slice-read-buf Inv-loop μ-loop
 shared-slice-read-buf c = search needs
 
--- src/lib.rt:132:13
 add-buf : tie.Need-add-buf Inv-loop μ-loop
 add-buf c = search needs
 
--- src/lib.rt:132:9
 slice-write-buf : tie.Need-slice-write-buf Inv-loop μ-loop
 slice-write-buf c = search needs
 
--- src/lib.rt:133:13
 add-i : tie.Need-add-i Inv-loop μ-loop
 add-i c = search needs
 
--- src/lib.rt:131:5
 loop-less : tie.Need-loop-less Inv-loop μ-loop
 loop-less c = search needs
 
--- src/lib.rt:131:5
 loop-again : tie.Need-loop-again Inv-loop μ-loop
 loop-again c = (copied (c .before .before .loop .buf) (c .before .before .before .args .part .now) (c .before .before .before .args .at) (c .before .before .loop .i) (c .before .loop-test .taken) ∙ c .before .before .loop .inv .0, omega arith, simp length-set (c .before .before .loop .inv .2))
 
--- src/lib.rt:126:1
 same-length : tie.Need-same-length Inv-loop μ-loop
 same-length c = c .before .loop .inv .2
 
--- src/lib.rt:126:1
 returns : tie.Need-returns Inv-loop μ-loop
 returns c = sym (all-copied (c .before .loop .buf) (c .before .before .args .part .now) (c .before .before .args .at) (c .before .loop .i) (omega arith)) ∙ c .before .loop .inv .0
 

@@ -2,14 +2,10 @@ use mathlib.Core.Path.{refl}
 use Rattle.numbers.proofs.Chain.{is-eq, is-ne}
 use Rattle.rows.proofs.is_time.Statement.{statement}
 use Rattle.rows.proofs.is_time.Tie as tie
-use Rattle.rows.proofs.is_time.Reads as reads
-use Rattle.rows.proofs.is_time.Lts as lts
 
--- src/lib.rt:58:9
 returns : tie.Need-returns
 returns c = is-eq _ _ _ _ _ (c .if1 .taken) refl
 
--- src/lib.rt:54:1
 returns-2 : tie.Need-returns-2
 returns-2 c = is-ne _ _ _ _ _ (c .if1 .left) refl
 

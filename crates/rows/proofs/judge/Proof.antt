@@ -6,9 +6,6 @@ use Rattle.rows.specs.Rows.{step, entriesOf}
 use Rattle.rows.proofs.Cells.{none-left, next-entry}
 use Rattle.rows.proofs.judge.Statement.{statement}
 use Rattle.rows.proofs.judge.Tie as tie
-use Rattle.rows.proofs.judge.Reads as reads
-use Rattle.rows.proofs.judge.Lts as lts
-use Rattle.rows.proofs.entry.Reads as entry-reads
 
 abbrev Inv-loop : tie.InvT-loop
 Inv-loop b at n cells left₀ p₀ last₀ left p last = entriesOf left cells b p last ≡ entriesOf n cells b at 0
@@ -16,39 +13,30 @@ Inv-loop b at n cells left₀ p₀ last₀ left p last = entriesOf left cells b 
 abbrev μ-loop : tie.MeasureT-loop
 μ-loop b at n cells left₀ p₀ last₀ left p last = left
 
--- src/lib.rt:126:5
 loop-holds : tie.Need-loop-holds Inv-loop μ-loop
 loop-holds c = refl
 
--- src/lib.rt:127:15
 entry-requires : tie.Need-entry-requires Inv-loop μ-loop
 entry-requires c κs = search needs
 
--- src/lib.rt:128:27
 enum-known-q : tie.Need-enum-known-q Inv-loop μ-loop
 enum-known-q c = search needs
 
--- src/lib.rt:129:17
 returns : tie.Need-returns Inv-loop μ-loop
 returns c = ap (step (λ p l. entriesOf (c .before .before .before .before .before .loop .left - 1) (c .before .before .before .before .before .before .before .args .cells) (c .before .before .before .before .before .before .before .args .b .now) p l)) (sym (c .before .q .given .1)) ∙ next-entry (c .before .before .before .before .before .before .before .args .cells) (c .before .before .before .before .before .before .before .args .b .now) (c .before .before .before .before .before .loop .p) (c .before .before .before .before .before .loop .last) (c .before .before .before .before .before .loop .left) (c .before .before .before .before .loop-test .taken) (c .before .before .before .entry .result) (c .before .before .before .entry .ensures) ∙ c .before .before .before .before .before .loop .inv
 
--- src/lib.rt:131:26
 enum-known-next : tie.Need-enum-known-next Inv-loop μ-loop
 enum-known-next c = search needs
 
--- src/lib.rt:134:24
 sub-left : tie.Need-sub-left Inv-loop μ-loop
 sub-left c = search needs
 
--- src/lib.rt:126:5
 loop-less : tie.Need-loop-less Inv-loop μ-loop
 loop-less c = search needs
 
--- src/lib.rt:126:5
 loop-again : tie.Need-loop-again Inv-loop μ-loop
 loop-again c = ap (step (λ p l. entriesOf (c .before .before .before .before .before .loop .left - 1) (c .before .before .before .before .before .before .before .args .cells) (c .before .before .before .before .before .before .before .args .b .now) p l)) (sym (c .before .next .given .1)) ∙ next-entry (c .before .before .before .before .before .before .before .args .cells) (c .before .before .before .before .before .before .before .args .b .now) (c .before .before .before .before .before .loop .p) (c .before .before .before .before .before .loop .last) (c .before .before .before .before .before .loop .left) (c .before .before .before .before .loop-test .taken) (c .before .before .before .entry .result) (c .before .before .before .entry .ensures) ∙ c .before .before .before .before .before .loop .inv
 
--- src/lib.rt:120:1
 returns-2 : tie.Need-returns-2 Inv-loop μ-loop
 returns-2 c = none-left (c .before .before .before .args .cells) (c .before .before .before .args .b .now) (c .before .loop .p) (c .before .loop .last) (c .before .loop .left) (omega arith) ∙ c .before .loop .inv
 

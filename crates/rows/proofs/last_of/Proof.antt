@@ -2,59 +2,45 @@ use Rattle.rows.specs.Rows.{lastOf}
 use borrow.Author.Needs.{needs}
 use Rattle.rows.proofs.last_of.Statement.{statement}
 use Rattle.rows.proofs.last_of.Tie as tie
-use Rattle.rows.proofs.last_of.Reads as reads
-use Rattle.rows.proofs.last_of.Lts as lts
 
--- src/lib.rt:81:25
 enum-told : tie.Need-enum-told
 enum-told c = search needs
 
--- src/lib.rt:82:30
 enum-told-2 : tie.Need-enum-told-2
 enum-told-2 c = search needs
 
--- src/lib.rt:83:28
 enum-told-3 : tie.Need-enum-told-3
 enum-told-3 c = search needs
 
--- src/lib.rt:84:29
 enum-told-4 : tie.Need-enum-told-4
 enum-told-4 c = search needs
 
--- src/lib.rt:85:26
 enum-told-5 : tie.Need-enum-told-5
 enum-told-5 c = search needs
 
--- src/lib.rt:86:26
 enum-told-6 : tie.Need-enum-told-6
 enum-told-6 c = search needs
 
--- src/lib.rt:77:1
 returns : tie.Need-returns
 unfolding lastOf
 returns c = rw (c .enum-told .given .1)
 
--- src/lib.rt:77:1
 returns-2 : tie.Need-returns-2
 unfolding lastOf
 returns-2 c = rw (c .enum-told2 .given .1)
 
--- src/lib.rt:77:1
 returns-3 : tie.Need-returns-3
 unfolding lastOf
 returns-3 c = rw (c .enum-told3 .given .1)
 
--- src/lib.rt:77:1
 returns-4 : tie.Need-returns-4
 unfolding lastOf
 returns-4 c = rw (c .enum-told4 .given .1)
 
--- src/lib.rt:77:1
 returns-5 : tie.Need-returns-5
 unfolding lastOf
 returns-5 c = rw (c .enum-told5 .given .1)
 
--- src/lib.rt:77:1
 returns-6 : tie.Need-returns-6
 unfolding lastOf
 returns-6 c = rw (c .enum-told6 .given .1)

@@ -2,80 +2,60 @@ use Rattle.rows.specs.Rows.{widthOf}
 use borrow.Author.Needs.{needs}
 use Rattle.rows.proofs.width_of.Statement.{statement}
 use Rattle.rows.proofs.width_of.Tie as tie
-use Rattle.rows.proofs.width_of.Reads as reads
-use Rattle.rows.proofs.width_of.Lts as lts
-use Rattle.rows.proofs.cap.Reads as cap-reads
 
--- src/lib.rt:44:19
 enum-known-cell : tie.Need-enum-known-cell
 enum-known-cell c = search needs
 
--- src/lib.rt:44:25
 cap-requires : tie.Need-cap-requires
 cap-requires c κs = search needs
 
--- src/lib.rt:45:21
 enum-known-cell-2 : tie.Need-enum-known-cell-2
 enum-known-cell-2 c = search needs
 
--- src/lib.rt:45:30
 cap-requires-2 : tie.Need-cap-requires-2
 cap-requires-2 c κs = search needs
 
--- src/lib.rt:46:22
 enum-known-cell-3 : tie.Need-enum-known-cell-3
 enum-known-cell-3 c = search needs
 
--- src/lib.rt:46:28
 cap-requires-3 : tie.Need-cap-requires-3
 cap-requires-3 c κs = search needs
 
--- src/lib.rt:47:23
 enum-known-cell-4 : tie.Need-enum-known-cell-4
 enum-known-cell-4 c = search needs
 
--- src/lib.rt:47:29
 cap-requires-4 : tie.Need-cap-requires-4
 cap-requires-4 c κs = search needs
 
--- src/lib.rt:48:20
 enum-known-cell-5 : tie.Need-enum-known-cell-5
 enum-known-cell-5 c = search needs
 
--- src/lib.rt:48:26
 cap-requires-5 : tie.Need-cap-requires-5
 cap-requires-5 c κs = search needs
 
--- src/lib.rt:49:26
 enum-told : tie.Need-enum-told
 enum-told c = search needs
 
--- src/lib.rt:40:1
 returns : tie.Need-returns
 unfolding widthOf
 returns c = rw (c .before .before .cell .given .1, c .cap .ensures)
 
--- src/lib.rt:40:1
 returns-2 : tie.Need-returns-2
 unfolding widthOf
 returns-2 c = rw (c .before .before .cell2 .given .1, c .cap2 .ensures)
 
--- src/lib.rt:40:1
 returns-3 : tie.Need-returns-3
 unfolding widthOf
 returns-3 c = rw (c .before .before .cell3 .given .1, c .cap3 .ensures)
 
--- src/lib.rt:40:1
 returns-4 : tie.Need-returns-4
 unfolding widthOf
 returns-4 c = rw (c .before .before .cell4 .given .1, c .cap4 .ensures)
 
--- src/lib.rt:40:1
 returns-5 : tie.Need-returns-5
 unfolding widthOf
 returns-5 c = rw (c .before .before .cell5 .given .1, c .cap5 .ensures)
 
--- src/lib.rt:40:1
 returns-6 : tie.Need-returns-6
 unfolding widthOf
 returns-6 c = rw (c .enum-told .given .1)

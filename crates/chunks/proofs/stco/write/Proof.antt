@@ -5,55 +5,40 @@ use Rattle.numbers.proofs.Chain.{is-eq, is-ne}
 use borrow.Author.Needs.{needs}
 use Rattle.chunks.proofs.stco.write.Statement.{statement}
 use Rattle.chunks.proofs.stco.write.Tie as tie
-use Rattle.chunks.proofs.stco.write.Reads as reads
-use Rattle.chunks.proofs.stco.write.Lts as lts
-use Rattle.layout.proofs.write.by.Reads as by-reads
 
--- src/stco.rt:85:16
 cast-size : tie.Need-cast-size
 cast-size c = search needs
 
--- src/stco.rt:85:16
 mul-size : tie.Need-mul-size
 mul-size c = search needs
 
--- src/stco.rt:87:9
 returns : tie.Need-returns
 returns c = is-ne _ _ _ (length (c .before .before .before .before .args .entries .now)) (c .before .before .before .before .args .stco .count * 4) (c .if1 .taken) refl
 
--- src/stco.rt:93:12
 cast-v : tie.Need-cast-v
 cast-v c = search needs
 
--- src/stco.rt:93:5
 array-write-v : tie.Need-array-write-v
 array-write-v c = search needs
 
--- src/stco.rt:94:12
 cast-v-2 : tie.Need-cast-v-2
 cast-v-2 c = search needs
 
--- src/stco.rt:94:5
 array-write-v-2 : tie.Need-array-write-v-2
 array-write-v-2 c = search needs
 
--- src/stco.rt:95:12
 cast-v-3 : tie.Need-cast-v-3
 cast-v-3 c = search needs
 
--- src/stco.rt:95:5
 array-write-v-3 : tie.Need-array-write-v-3
 array-write-v-3 c = search needs
 
--- src/stco.rt:96:5
 by-requires : tie.Need-by-requires
 by-requires c κs = search needs
 
--- src/stco.rt:82:1
 same-length : tie.Need-same-length
 same-length c = search needs
 
--- src/stco.rt:82:1
 returns-2 : tie.Need-returns-2
 returns-2 c = is-eq _ _ _ (length (c .before .before .before .before .before .before .before .before .before .before .before .args .entries .now)) (c .before .before .before .before .before .before .before .before .before .before .before .args .stco .count * 4) (c .before .before .before .before .before .before .before .if1 .left) (c .before .before .by .ensures)
 

@@ -9,41 +9,30 @@ use Rattle.fragments.specs.declared.tfdt.Found.the-variants.{Is, Refused
 use borrow.Author.Needs.{needs}
 use Rattle.fragments.proofs.tfdt.read.Statement.{statement}
 use Rattle.fragments.proofs.tfdt.read.Tie as tie
-use Rattle.fragments.proofs.tfdt.read.Reads as reads
-use Rattle.fragments.proofs.tfdt.read.Lts as lts
-use Rattle.layout.proofs.read.by.Reads as by-reads
 
--- src/tfdt.rt:52:9
 by-requires : tie.Need-by-requires
 by-requires c κs = search needs
 
--- src/tfdt.rt:54:9
 returns : tie.Need-returns
 returns c = told-no Is Refused from _ _ (c .before .before .by .ensures) (c .if1 .taken)
 
--- src/tfdt.rt:61:18
 array-read-t33 : tie.Need-array-read-t33
 array-read-t33 c = search needs
 
--- src/tfdt.rt:61:18
 cast-t34 : tie.Need-cast-t34
 unfolding limit most ruleOf when
 cast-t34 c = omega (arith, fits kind fields (c .before .before .before .before .before .args .part .now) 0 1 _ (c .before .before .before .by .ensures) refl)
 
--- src/tfdt.rt:62:16
 array-read-t37 : tie.Need-array-read-t37
 array-read-t37 c = search needs
 
--- src/tfdt.rt:62:16
 cast-t38 : tie.Need-cast-t38
 unfolding limit most ruleOf when
 cast-t38 c = omega (arith, fits kind fields (c .before .before .before .before .before .args .part .now) 1 16777215 _ (c .before .before .before .by .ensures) refl)
 
--- src/tfdt.rt:63:33
 array-read-t41 : tie.Need-array-read-t41
 array-read-t41 c = search needs
 
--- src/tfdt.rt:49:1
 returns-2 : tie.Need-returns-2
 returns-2 c = told-is Is Refused from _ _ (c .before .before .before .by .ensures) (c .before .if1 .left)
 

@@ -9,86 +9,65 @@ use Rattle.fragments.specs.declared.tfhd.Found.the-variants.{Is, Refused
 use borrow.Author.Needs.{needs}
 use Rattle.fragments.proofs.tfhd.read.Statement.{statement}
 use Rattle.fragments.proofs.tfhd.read.Tie as tie
-use Rattle.fragments.proofs.tfhd.read.Reads as reads
-use Rattle.fragments.proofs.tfhd.read.Lts as lts
-use Rattle.layout.proofs.read.by.Reads as by-reads
 
--- src/tfhd.rt:57:9
 by-requires : tie.Need-by-requires
 by-requires c κs = search needs
 
--- src/tfhd.rt:59:9
 returns : tie.Need-returns
 returns c = told-no Is Refused from _ _ (c .before .before .by .ensures) (c .if1 .taken)
 
--- src/tfhd.rt:66:18
 array-read-t33 : tie.Need-array-read-t33
 array-read-t33 c = search needs
 
--- src/tfhd.rt:66:18
 cast-t34 : tie.Need-cast-t34
 unfolding limit most ruleOf when
 cast-t34 c = omega (arith, fits kind fields (c .before .before .before .before .before .args .part .now) 0 0 _ (c .before .before .before .by .ensures) refl)
 
--- src/tfhd.rt:67:16
 array-read-t37 : tie.Need-array-read-t37
 array-read-t37 c = search needs
 
--- src/tfhd.rt:67:16
 cast-t38 : tie.Need-cast-t38
 unfolding limit most ruleOf when
 cast-t38 c = omega (arith, fits kind fields (c .before .before .before .before .before .args .part .now) 1 16777215 _ (c .before .before .before .by .ensures) refl)
 
--- src/tfhd.rt:68:19
 array-read-t41 : tie.Need-array-read-t41
 array-read-t41 c = search needs
 
--- src/tfhd.rt:68:19
 cast-t42 : tie.Need-cast-t42
 unfolding limit most ruleOf when
 cast-t42 c = omega (arith, fits kind fields (c .before .before .before .before .before .args .part .now) 2 4294967295 _ (c .before .before .before .by .ensures) refl)
 
--- src/tfhd.rt:69:27
 array-read-t45 : tie.Need-array-read-t45
 array-read-t45 c = search needs
 
--- src/tfhd.rt:70:35
 array-read-t48 : tie.Need-array-read-t48
 array-read-t48 c = search needs
 
--- src/tfhd.rt:70:35
 cast-t49 : tie.Need-cast-t49
 unfolding limit most ruleOf when
 cast-t49 c = omega (arith, fits kind fields (c .before .before .before .before .before .args .part .now) 4 4294967295 _ (c .before .before .before .by .ensures) refl)
 
--- src/tfhd.rt:71:34
 array-read-t52 : tie.Need-array-read-t52
 array-read-t52 c = search needs
 
--- src/tfhd.rt:71:34
 cast-t53 : tie.Need-cast-t53
 unfolding limit most ruleOf when
 cast-t53 c = omega (arith, fits kind fields (c .before .before .before .before .before .args .part .now) 5 4294967295 _ (c .before .before .before .by .ensures) refl)
 
--- src/tfhd.rt:72:30
 array-read-t56 : tie.Need-array-read-t56
 array-read-t56 c = search needs
 
--- src/tfhd.rt:72:30
 cast-t57 : tie.Need-cast-t57
 unfolding limit most ruleOf when
 cast-t57 c = omega (arith, fits kind fields (c .before .before .before .before .before .args .part .now) 6 4294967295 _ (c .before .before .before .by .ensures) refl)
 
--- src/tfhd.rt:73:31
 array-read-t60 : tie.Need-array-read-t60
 array-read-t60 c = search needs
 
--- src/tfhd.rt:73:31
 cast-t61 : tie.Need-cast-t61
 unfolding limit most ruleOf when
 cast-t61 c = omega (arith, fits kind fields (c .before .before .before .before .before .args .part .now) 7 4294967295 _ (c .before .before .before .by .ensures) refl)
 
--- src/tfhd.rt:54:1
 returns-2 : tie.Need-returns-2
 returns-2 c = told-is Is Refused from _ _ (c .before .before .before .by .ensures) (c .before .if1 .left)
 

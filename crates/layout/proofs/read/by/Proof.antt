@@ -5,49 +5,34 @@ use Rattle.layout.proofs.Cases.{part-of}
 use borrow.Author.Needs.{needs}
 use Rattle.layout.proofs.read.by.Statement.{statement}
 use Rattle.layout.proofs.read.by.Tie as tie
-use Rattle.layout.proofs.read.by.Reads as reads
-use Rattle.layout.proofs.read.by.Lts as lts
-use Rattle.boxes.proofs.header.read.Reads as read-reads
-use Rattle.layout.proofs.read.faulty.Reads as faulty-reads
-use Rattle.layout.proofs.read.row_at.Reads as row-at-reads
 
--- src/read.rt:80:11
 read-requires : tie.Need-read-requires
 read-requires c κs = search needs
 
--- src/read.rt:81:24
 enum-known-q : tie.Need-enum-known-q
 enum-known-q c = search needs
 
--- src/read.rt:81:30
 faulty-requires : tie.Need-faulty-requires
 faulty-requires c κs = search needs
 
--- src/read.rt:82:19
 enum-known-h : tie.Need-enum-known-h
 enum-known-h c = search needs
 
--- src/read.rt:86:31
 slice-aggregate-row-at : tie.Need-slice-aggregate-row-at
 slice-aggregate-row-at c = part-of (c .before .before .before .before .before .before .before .before .args .b .now) (c .before .before .before .before .h .given .0 .0) (sym (c .before .before .before .before .before .before .read .ensures) ∙ c .before .before .before .before .h .given .1) .0
 
--- src/read.rt:86:17
 row-at-requires : tie.Need-row-at-requires
 row-at-requires c κs = part-of (c .before .before .before .before .before .before .before .before .args .b .now) (c .before .before .before .before .h .given .0 .0) (sym (c .before .before .before .before .before .before .read .ensures) ∙ c .before .before .before .before .h .given .1) .1
 
--- src/read.rt:86:17
 returns : tie.Need-returns
 returns c = is-eq _ _ _ _ _ (c .before .before .if1 .taken) (c .row-at .ensures) ∙ ap (headed (c .before .before .before .before .before .before .before .before .before .args .kind) (c .before .before .before .before .before .before .before .before .before .args .row) (c .before .before .before .before .before .before .before .before .before .args .b .now)) (sym (c .before .before .before .before .before .h .given .1) ∙ c .before .before .before .before .before .before .before .read .ensures)
 
--- src/read.rt:88:13
 faulty-requires-2 : tie.Need-faulty-requires-2
 faulty-requires-2 c κs = search needs
 
--- src/read.rt:77:1
 returns-2 : tie.Need-returns-2
 returns-2 c = c .faulty .ensures ∙ ap (headed (c .before .before .before .before .before .before .args .kind) (c .before .before .before .before .before .before .args .row) (c .before .before .before .before .before .before .args .b .now)) (sym (c .before .before .q .given .1) ∙ c .before .before .before .before .read .ensures)
 
--- src/read.rt:77:1
 returns-3 : tie.Need-returns-3
 returns-3 c = is-ne _ _ _ _ _ (c .before .if1 .left) (c .faulty2 .ensures) ∙ ap (headed (c .before .before .before .before .before .before .before .before .args .kind) (c .before .before .before .before .before .before .before .before .args .row) (c .before .before .before .before .before .before .before .before .args .b .now)) (sym (c .before .before .before .before .h .given .1) ∙ c .before .before .before .before .before .before .read .ensures)
 

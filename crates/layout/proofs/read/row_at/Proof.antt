@@ -9,11 +9,6 @@ use Rattle.layout.specs.Read.{zeros, decode, fieldsOf}
 use Rattle.layout.proofs.Cases.{width-of, short, low, high, more, all}
 use Rattle.layout.proofs.read.row_at.Statement.{statement}
 use Rattle.layout.proofs.read.row_at.Tie as tie
-use Rattle.layout.proofs.read.row_at.Reads as reads
-use Rattle.layout.proofs.read.row_at.Lts as lts
-use Rattle.layout.proofs.read.faulty.Reads as faulty-reads
-use Rattle.layout.proofs.rule.rule_of.Reads as rule-of-reads
-use Rattle.numbers.proofs.number_at.Reads as number-at-reads
 
 abbrev Inv-loop : tie.InvT-loop
 Inv-loop b from row values₀ slot₀ at₀ version₀ flags₀ i₀ values slot at version flags i = (fieldsOf (length b) values slot (decode (drop i row) b at version flags) ≡ fieldsOf (length b) (zeros 24) 0 (decode row b from 0 0)) × (at ≤ length b) × (slot ≤ i) × (i ≤ 24) × (length values ≡ 24)
@@ -21,83 +16,63 @@ Inv-loop b from row values₀ slot₀ at₀ version₀ flags₀ i₀ values slot
 abbrev μ-loop : tie.MeasureT-loop
 μ-loop b from row values₀ slot₀ at₀ version₀ flags₀ i₀ values slot at version flags i = 24 - i
 
--- src/read.rt:42:5
 loop-holds : tie.Need-loop-holds Inv-loop μ-loop
 loop-holds c = (refl, omega arith, omega arith, omega arith, refl)
 
--- src/read.rt:43:17
 mul-f : tie.Need-mul-f Inv-loop μ-loop
 mul-f c = search needs
 
--- src/read.rt:43:17
 array-copy-out-f : tie.Need-array-copy-out-f Inv-loop μ-loop
 array-copy-out-f c = search needs
 
--- src/read.rt:44:13
 rule-of-requires : tie.Need-rule-of-requires Inv-loop μ-loop
 rule-of-requires c κs = search needs
 
--- src/read.rt:46:26
 number-at-requires : tie.Need-number-at-requires Inv-loop μ-loop
 number-at-requires c κs = search needs
 
--- src/read.rt:46:21
 enum-known-x : tie.Need-enum-known-x Inv-loop μ-loop
 enum-known-x c = search needs
 
--- src/read.rt:47:13
 enum-told : tie.Need-enum-told Inv-loop μ-loop
 enum-told c = search needs
 
--- src/read.rt:47:13
 faulty-requires : tie.Need-faulty-requires Inv-loop μ-loop
 faulty-requires c κs = search needs
 
--- src/read.rt:47:13
 returns : tie.Need-returns Inv-loop μ-loop
 returns c = c .faulty .ensures ∙ short (c .before .before .before .before .before .before .before .before .before .args .t2) _ (length (c .before .before .before .before .before .before .before .before .before .args .b .now)) (c .before .before .before .before .before .before .before .before .before .args .b .now) (c .before .before .before .before .before .before .before .loop .i) (c .before .before .before .before .before .before .before .loop .at) (c .before .before .before .before .before .before .before .loop .version) (c .before .before .before .before .before .before .before .loop .flags) (c .before .before .before .before .before .before .before .loop .values) (c .before .before .before .before .before .before .before .loop .slot) (c .before .before .before .before .rule-of .result) (search needs) (c .before .before .before .before .rule-of .ensures) (lacks by64 (c .before .before .before .before .rule-of .result .width) (c .before .before .before .before .before .before .before .before .before .args .b .now) (c .before .before .before .before .before .before .before .loop .at) _ (c .before .before .before .number-at .ensures ∙ sym (is-le _ _ _ (c .before .before .before .before .rule-of .result .width) 8 (width-of _ _ _ _ (c .before .before .before .before .rule-of .ensures)) refl)) _ (c .before .enum-told .given .1)) ∙ c .before .before .before .before .before .before .before .loop .inv .0
 
--- src/read.rt:50:13
 faulty-requires-2 : tie.Need-faulty-requires-2 Inv-loop μ-loop
 faulty-requires-2 c κs = search needs
 
--- src/read.rt:50:13
 returns-2 : tie.Need-returns-2 Inv-loop μ-loop
 returns-2 c = c .faulty2 .ensures ∙ low (c .before .before .before .before .before .before .before .before .before .before .before .before .args .t2) _ (length (c .before .before .before .before .before .before .before .before .before .before .before .before .args .b .now)) (c .before .before .before .before .before .before .before .before .before .before .before .before .args .b .now) (c .before .before .before .before .before .before .before .before .before .before .loop .i) (c .before .before .before .before .before .before .before .before .before .before .loop .at) (c .before .before .before .before .before .before .before .before .before .before .loop .version) (c .before .before .before .before .before .before .before .before .before .before .loop .flags) (c .before .before .before .before .before .before .before .before .before .before .loop .values) (c .before .before .before .before .before .before .before .before .before .before .loop .slot) (c .before .before .before .before .before .before .before .rule-of .result) (search needs) (c .before .before .before .before .before .before .before .rule-of .ensures) (c .before .before .before .before .x .given .0 .0) (there by64 (c .before .before .before .before .before .before .before .rule-of .result .width) (c .before .before .before .before .before .before .before .before .before .before .before .before .args .b .now) (c .before .before .before .before .before .before .before .before .before .before .loop .at) _ (c .before .before .before .before .before .before .number-at .ensures ∙ sym (is-le _ _ _ (c .before .before .before .before .before .before .before .rule-of .result .width) 8 (width-of _ _ _ _ (c .before .before .before .before .before .before .before .rule-of .ensures)) refl)) _ (c .before .before .before .before .x .given .1) .0) (there by64 (c .before .before .before .before .before .before .before .rule-of .result .width) (c .before .before .before .before .before .before .before .before .before .before .before .before .args .b .now) (c .before .before .before .before .before .before .before .before .before .before .loop .at) _ (c .before .before .before .before .before .before .number-at .ensures ∙ sym (is-le _ _ _ (c .before .before .before .before .before .before .before .rule-of .result .width) 8 (width-of _ _ _ _ (c .before .before .before .before .before .before .before .rule-of .ensures)) refl)) _ (c .before .before .before .before .x .given .1) .1) (c .before .if1 .taken) ∙ c .before .before .before .before .before .before .before .before .before .before .loop .inv .0
 
--- src/read.rt:53:13
 faulty-requires-3 : tie.Need-faulty-requires-3 Inv-loop μ-loop
 faulty-requires-3 c κs = search needs
 
--- src/read.rt:53:13
 returns-3 : tie.Need-returns-3 Inv-loop μ-loop
 returns-3 c = c .faulty3 .ensures ∙ high (c .before .before .before .before .before .before .before .before .before .before .before .before .before .before .args .t2) _ (length (c .before .before .before .before .before .before .before .before .before .before .before .before .before .before .args .b .now)) (c .before .before .before .before .before .before .before .before .before .before .before .before .before .before .args .b .now) (c .before .before .before .before .before .before .before .before .before .before .before .before .loop .i) (c .before .before .before .before .before .before .before .before .before .before .before .before .loop .at) (c .before .before .before .before .before .before .before .before .before .before .before .before .loop .version) (c .before .before .before .before .before .before .before .before .before .before .before .before .loop .flags) (c .before .before .before .before .before .before .before .before .before .before .before .before .loop .values) (c .before .before .before .before .before .before .before .before .before .before .before .before .loop .slot) (c .before .before .before .before .before .before .before .before .before .rule-of .result) (omega (arith, c .before .before .before .before .before .before .before .before .before .before .before .before .before .before .good .1 .0, c .before .before .before .before .before .before .before .before .before .before .before .loop-test .taken)) (c .before .before .before .before .before .before .before .before .before .rule-of .ensures) (c .before .before .before .before .before .before .x .given .0 .0) (there by64 (c .before .before .before .before .before .before .before .before .before .rule-of .result .width) (c .before .before .before .before .before .before .before .before .before .before .before .before .before .before .args .b .now) (c .before .before .before .before .before .before .before .before .before .before .before .before .loop .at) _ (c .before .before .before .before .before .before .before .before .number-at .ensures ∙ sym (is-le _ _ _ (c .before .before .before .before .before .before .before .before .before .rule-of .result .width) 8 (width-of _ _ _ _ (c .before .before .before .before .before .before .before .before .before .rule-of .ensures)) refl)) _ (c .before .before .before .before .before .before .x .given .1) .0) (there by64 (c .before .before .before .before .before .before .before .before .before .rule-of .result .width) (c .before .before .before .before .before .before .before .before .before .before .before .before .before .before .args .b .now) (c .before .before .before .before .before .before .before .before .before .before .before .before .loop .at) _ (c .before .before .before .before .before .before .before .before .number-at .ensures ∙ sym (is-le _ _ _ (c .before .before .before .before .before .before .before .before .before .rule-of .result .width) 8 (width-of _ _ _ _ (c .before .before .before .before .before .before .before .before .before .rule-of .ensures)) refl)) _ (c .before .before .before .before .before .before .x .given .1) .1) (c .before .before .before .if1 .left) (c .before .if2 .taken) ∙ c .before .before .before .before .before .before .before .before .before .before .before .before .loop .inv .0
 
--- src/read.rt:56:13
 mul-values : tie.Need-mul-values Inv-loop μ-loop
 mul-values c = search needs
 
--- src/read.rt:56:13
 array-write-values : tie.Need-array-write-values Inv-loop μ-loop
 array-write-values c = search needs
 
--- src/read.rt:57:20
 add-slot : tie.Need-add-slot Inv-loop μ-loop
 add-slot c = search needs
 
--- src/read.rt:65:14
 add-at : tie.Need-add-at Inv-loop μ-loop
 add-at c = omega (arith, there by64 (c .before .before .before .before .before .before .before .before .before .before .before .rule-of .result .width) (c .before .before .before .before .before .before .before .before .before .before .before .before .before .before .before .before .args .b .now) (c .before .before .before .before .before .before .before .before .before .before .before .before .before .before .loop .at) _ (c .before .before .before .before .before .before .before .before .before .before .number-at .ensures ∙ sym (is-le _ _ _ (c .before .before .before .before .before .before .before .before .before .before .before .rule-of .result .width) 8 (width-of _ _ _ _ (c .before .before .before .before .before .before .before .before .before .before .before .rule-of .ensures)) refl)) _ (c .before .before .before .before .before .before .before .before .x .given .1) .0)
 
--- src/read.rt:66:13
 add-i : tie.Need-add-i Inv-loop μ-loop
 add-i c = search needs
 
--- src/read.rt:42:5
 loop-less : tie.Need-loop-less Inv-loop μ-loop
 loop-less c = search needs
 
--- src/read.rt:42:5
 loop-again : tie.Need-loop-again Inv-loop μ-loop
 loop-again c = (
   more (c .before .before .before .before .before .before .before .before .before .before .before .before .before .before .before .before .args .t2) _ (length (c .before .before .before .before .before .before .before .before .before .before .before .before .before .before .before .before .args .b .now)) (c .before .before .before .before .before .before .before .before .before .before .before .before .before .before .before .before .args .b .now) (c .before .before .before .before .before .before .before .before .before .before .before .before .before .before .loop .i) (c .before .before .before .before .before .before .before .before .before .before .before .before .before .before .loop .at) (c .before .before .before .before .before .before .before .before .before .before .before .before .before .before .loop .version) (c .before .before .before .before .before .before .before .before .before .before .before .before .before .before .loop .flags) (c .before .before .before .before .before .before .before .before .before .before .before .before .before .before .loop .values) (c .before .before .before .before .before .before .before .before .before .before .before .before .before .before .loop .slot) (c .before .before .before .before .before .before .before .before .before .before .before .rule-of .result) (omega (arith, c .before .before .before .before .before .before .before .before .before .before .before .before .before .before .before .before .good .1 .0, c .before .before .before .before .before .before .before .before .before .before .before .before .before .loop-test .taken)) (c .before .before .before .before .before .before .before .before .before .before .before .rule-of .ensures) (c .before .before .before .before .before .before .before .before .x .given .0 .0) (there by64 (c .before .before .before .before .before .before .before .before .before .before .before .rule-of .result .width) (c .before .before .before .before .before .before .before .before .before .before .before .before .before .before .before .before .args .b .now) (c .before .before .before .before .before .before .before .before .before .before .before .before .before .before .loop .at) _ (c .before .before .before .before .before .before .before .before .before .before .number-at .ensures ∙ sym (is-le _ _ _ (c .before .before .before .before .before .before .before .before .before .before .before .rule-of .result .width) 8 (width-of _ _ _ _ (c .before .before .before .before .before .before .before .before .before .before .before .rule-of .ensures)) refl)) _ (c .before .before .before .before .before .before .before .before .x .given .1) .0) (there by64 (c .before .before .before .before .before .before .before .before .before .before .before .rule-of .result .width) (c .before .before .before .before .before .before .before .before .before .before .before .before .before .before .before .before .args .b .now) (c .before .before .before .before .before .before .before .before .before .before .before .before .before .before .loop .at) _ (c .before .before .before .before .before .before .before .before .before .before .number-at .ensures ∙ sym (is-le _ _ _ (c .before .before .before .before .before .before .before .before .before .before .before .rule-of .result .width) 8 (width-of _ _ _ _ (c .before .before .before .before .before .before .before .before .before .before .before .rule-of .ensures)) refl)) _ (c .before .before .before .before .before .before .before .before .x .given .1) .1) (c .before .before .before .before .before .if1 .left) (c .before .before .before .if2 .left) _ _ _ _
@@ -111,7 +86,6 @@ loop-again c = (
   ⊎-elim (λ w. ap length (w .1) ∙ simp length-set (c .before .before .before .before .before .before .before .before .before .before .before .before .before .before .loop .inv .4)) (λ w. ap length (w .1) ∙ c .before .before .before .before .before .before .before .before .before .before .before .before .before .before .loop .inv .4) (c .before .before .if3 .came),
 )
 
--- src/read.rt:32:1
 returns-4 : tie.Need-returns-4 Inv-loop μ-loop
 returns-4 c = all (c .before .before .before .args .t2) (length (c .before .before .before .args .b .now)) (c .before .before .before .args .b .now) (c .before .loop .i) (c .before .loop .at) (c .before .loop .version) (c .before .loop .flags) (c .before .loop .values) (c .before .loop .slot) (omega arith) ∙ c .before .loop .inv .0
 

@@ -3,18 +3,13 @@ use Rattle.numbers.proofs.Chain.{is-eq, is-ne}
 use borrow.Author.Needs.{needs}
 use Rattle.layout.proofs.rule.is_set.Statement.{statement}
 use Rattle.layout.proofs.rule.is_set.Tie as tie
-use Rattle.layout.proofs.rule.is_set.Reads as reads
-use Rattle.layout.proofs.rule.is_set.Lts as lts
 
--- src/rule.rt:64:9
 returns : tie.Need-returns
 returns c = is-eq _ _ _ _ _ (c .if1 .taken) refl
 
--- src/rule.rt:66:5
 div-result : tie.Need-div-result
 div-result c = search needs
 
--- src/rule.rt:60:1
 returns-2 : tie.Need-returns-2
 returns-2 c = is-ne _ _ _ _ _ (c .if1 .left) refl
 

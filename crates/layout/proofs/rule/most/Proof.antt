@@ -7,8 +7,6 @@ use Rattle.numbers.proofs.Table.{at}
 use borrow.Author.Needs.{needs}
 use Rattle.layout.proofs.rule.most.Statement.{statement}
 use Rattle.layout.proofs.rule.most.Tie as tie
-use Rattle.layout.proofs.rule.most.Reads as reads
-use Rattle.layout.proofs.rule.most.Lts as lts
 
 numbers : List ℕ
 numbers = 0 ∷ 0xff ∷ 0xffff ∷ 0xff_ffff ∷ 0xffff_ffff ∷ 0xff_ffff_ffff ∷ 0xffff_ffff_ffff ∷ 0xff_ffff_ffff_ffff ∷ 0xffff_ffff_ffff_ffff ∷ []
@@ -16,15 +14,12 @@ numbers = 0 ∷ 0xff ∷ 0xffff ∷ 0xff_ffff ∷ 0xffff_ffff ∷ 0xff_ffff_ffff
 right : ℕ → ℕ → Bool
 right w x = eqb x (256 ^ w - 1)
 
--- src/rule.rt:35:5
 mul-result : tie.Need-mul-result
 mul-result c = search needs
 
--- src/rule.rt:35:5
 array-read-result : tie.Need-array-read-result
 array-read-result c = search needs
 
--- src/rule.rt:31:1
 returns : tie.Need-returns
 unfolding numbers right
 returns c = eqb→eq (getD numbers (c .args .w) 0) (256 ^ c .args .w - 1) (at right numbers tt (c .args .w) (search needs))

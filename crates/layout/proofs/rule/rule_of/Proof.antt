@@ -7,140 +7,104 @@ use Rattle.layout.specs.Rule.{ruleOf}
 use borrow.Author.Needs.{needs}
 use Rattle.layout.proofs.rule.rule_of.Statement.{statement}
 use Rattle.layout.proofs.rule.rule_of.Tie as tie
-use Rattle.layout.proofs.rule.rule_of.Reads as reads
-use Rattle.layout.proofs.rule.rule_of.Lts as lts
-use Rattle.layout.proofs.rule.any.Reads as any-reads
-use Rattle.layout.proofs.rule.cap.Reads as cap-reads
-use Rattle.layout.proofs.rule.is_set.Reads as is-set-reads
-use Rattle.layout.proofs.rule.most.Reads as most-reads
 
--- src/rule.rt:73:23
 enum-known-f : tie.Need-enum-known-f
 enum-known-f c = search needs
 
--- src/rule.rt:73:29
 any-requires : tie.Need-any-requires
 any-requires c κs = search needs
 
--- src/rule.rt:74:25
 enum-known-f-2 : tie.Need-enum-known-f-2
 enum-known-f-2 c = search needs
 
--- src/rule.rt:75:17
 cap-requires : tie.Need-cap-requires
 cap-requires c κs = search needs
 
--- src/rule.rt:79:23
 most-requires : tie.Need-most-requires
 most-requires c κs = search needs
 
--- src/rule.rt:87:21
 enum-known-f-3 : tie.Need-enum-known-f-3
 enum-known-f-3 c = search needs
 
--- src/rule.rt:87:50
 any-requires-2 : tie.Need-any-requires-2
 any-requires-2 c κs = search needs
 
--- src/rule.rt:87:66
 any-requires-3 : tie.Need-any-requires-3
 any-requires-3 c κs = search needs
 
--- src/rule.rt:88:25
 enum-known-f-4 : tie.Need-enum-known-f-4
 enum-known-f-4 c = search needs
 
--- src/rule.rt:88:41
 is-set-requires : tie.Need-is-set-requires
 is-set-requires c κs = search needs
 
--- src/rule.rt:88:62
 any-requires-4 : tie.Need-any-requires-4
 any-requires-4 c κs = search needs
 
--- src/rule.rt:88:78
 any-requires-5 : tie.Need-any-requires-5
 any-requires-5 c κs = search needs
 
--- src/rule.rt:89:22
 enum-known-f-5 : tie.Need-enum-known-f-5
 enum-known-f-5 c = search needs
 
--- src/rule.rt:90:17
 cap-requires-2 : tie.Need-cap-requires-2
 cap-requires-2 c κs = search needs
 
--- src/rule.rt:94:23
 most-requires-2 : tie.Need-most-requires-2
 most-requires-2 c κs = search needs
 
--- src/rule.rt:102:24
 enum-known-f-6 : tie.Need-enum-known-f-6
 enum-known-f-6 c = search needs
 
--- src/rule.rt:104:18
 cast-t24 : tie.Need-cast-t24
 cast-t24 c = search needs
 
--- src/rule.rt:105:19
 cast-t25 : tie.Need-cast-t25
 cast-t25 c = search needs
 
--- src/rule.rt:112:25
 enum-told : tie.Need-enum-told
 enum-told c = search needs
 
--- src/rule.rt:122:27
 enum-told-2 : tie.Need-enum-told-2
 enum-told-2 c = search needs
 
--- src/rule.rt:69:1
 returns : tie.Need-returns
 unfolding when ruleOf
 returns c = rw (c .before .before .f .given .1, c .any .ensures)
 
--- src/rule.rt:69:1
 returns-2 : tie.Need-returns-2
 unfolding when ruleOf
 returns-2 c = rw (c .before .before .before .f2 .given .1, c .most .ensures, c .before .cap .ensures)
 
--- src/rule.rt:69:1
 returns-3 : tie.Need-returns-3
 unfolding when ruleOf
 returns-3 c = rw (c .before .before .before .f3 .given .1, eq-eqb (c .before .before .before .before .before .args .version) 1 (c .before .if1 .taken), c .any2 .ensures)
 
--- src/rule.rt:69:1
 returns-4 : tie.Need-returns-4
 unfolding when ruleOf
 returns-4 c = rw (c .before .before .before .f3 .given .1, ne-eqb (c .before .before .before .before .before .args .version) 1 (c .before .if1 .left), c .any3 .ensures)
 
--- src/rule.rt:69:1
 returns-5 : tie.Need-returns-5
 unfolding when ruleOf
 returns-5 c = rw (c .before .before .before .before .f4 .given .1, ← c .before .before .is-set .ensures, c .before .if2 .taken, c .any4 .ensures)
 
--- src/rule.rt:69:1
 returns-6 : tie.Need-returns-6
 unfolding when ruleOf
 returns-6 c = rw (c .before .before .before .before .f4 .given .1, ← c .before .before .is-set .ensures, c .before .if2 .left, c .any5 .ensures)
 
--- src/rule.rt:69:1
 returns-7 : tie.Need-returns-7
 unfolding when ruleOf
 returns-7 c = rw (c .before .before .before .f5 .given .1, c .most2 .ensures, c .before .cap2 .ensures)
 
--- src/rule.rt:69:1
 returns-8 : tie.Need-returns-8
 unfolding when ruleOf
 returns-8 c = let h : min (c .before .f6 .given .0 .1 .0) 255 ≡ c .before .f6 .given .0 .1 .0 = omega arith in
     rw (c .before .f6 .given .1, h)
 
--- src/rule.rt:69:1
 returns-9 : tie.Need-returns-9
 unfolding when ruleOf
 returns-9 c = rw (c .enum-told .given .1)
 
--- src/rule.rt:69:1
 returns-10 : tie.Need-returns-10
 unfolding when ruleOf
 returns-10 c = rw (c .enum-told2 .given .1)

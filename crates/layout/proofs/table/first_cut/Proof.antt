@@ -6,42 +6,31 @@ use Rattle.layout.proofs.Tables.{no-fields, past-end, no-width, is-cut,
 use borrow.Author.Needs.{needs}
 use Rattle.layout.proofs.table.first_cut.Statement.{statement}
 use Rattle.layout.proofs.table.first_cut.Tie as tie
-use Rattle.layout.proofs.table.first_cut.Reads as reads
-use Rattle.layout.proofs.table.first_cut.Lts as lts
 
--- src/table.rt:15:9
 returns : tie.Need-returns
 returns c = no-fields (c .before .args .n) (c .before .args .w) (c .before .args .b .now) (c .before .args .at) (c .if1 .taken)
 
--- src/table.rt:18:9
 returns-2 : tie.Need-returns-2
 returns-2 c = past-end (c .before .before .args .n) (c .before .before .args .w) (c .before .before .args .b .now) (c .before .before .args .at) (c .before .if1 .left) (c .if2 .taken)
 
--- src/table.rt:21:9
 returns-3 : tie.Need-returns-3
 returns-3 c = no-width (c .before .before .before .args .n) (c .before .before .before .args .w) (c .before .before .before .args .b .now) (c .before .before .before .args .at) (c .before .if2 .left) (c .if3 .taken)
 
--- src/table.rt:23:17
 sub-room : tie.Need-sub-room
 sub-room c = search needs
 
--- src/table.rt:24:13
 div-q : tie.Need-div-q
 div-q c = search needs
 
--- src/table.rt:26:30
 mul-t10 : tie.Need-mul-t10
 mul-t10 c = omega (arith, div-mul-le-self (length (c .before .before .before .before .args .b .now) - c .before .before .before .before .args .at) (c .before .before .before .before .args .w))
 
--- src/table.rt:26:24
 add-t12 : tie.Need-add-t12
 add-t12 c = omega (arith, div-mul-le-self (length (c .before .before .before .before .args .b .now) - c .before .before .before .before .args .at) (c .before .before .before .before .args .w))
 
--- src/table.rt:26:9
 returns-4 : tie.Need-returns-4
 returns-4 c = is-cut (c .before .before .before .before .args .w) (c .before .before .before .before .args .b .now) (let z = c .before .if3 .left in omega arith) (c .before .before .before .before .args .n) (c .before .before .before .before .args .at) (c .before .before .if2 .left) (c .if4 .taken)
 
--- src/table.rt:11:1
 returns-5 : tie.Need-returns-5
 returns-5 c = is-whole (c .before .before .before .before .args .w) (c .before .before .before .before .args .b .now) (let z = c .before .if3 .left in omega arith) (c .before .before .before .before .args .n) (c .before .before .before .before .args .at) (c .before .before .if2 .left) (c .if4 .left)
 

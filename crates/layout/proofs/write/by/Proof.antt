@@ -6,73 +6,52 @@ use Rattle.layout.proofs.Writes.{not-made, too-long, too-small, all-pla
 use borrow.Author.Needs.{needs}
 use Rattle.layout.proofs.write.by.Statement.{statement}
 use Rattle.layout.proofs.write.by.Tie as tie
-use Rattle.layout.proofs.write.by.Reads as reads
-use Rattle.layout.proofs.write.by.Lts as lts
-use Rattle.boxes.proofs.header.write.Reads as write-reads
-use Rattle.layout.proofs.write.code.Reads as code-reads
-use Rattle.put.proofs.part.Reads as part-reads
 
--- src/write.rt:81:9
 code-requires : tie.Need-code-requires
 code-requires c κs = search needs
 
--- src/write.rt:83:9
 returns : tie.Need-returns
 returns c = not-made (c .before .before .before .before .before .args .kind) (c .before .before .before .before .before .args .tail .now) (c .before .before .before .before .before .args .buf .now) (c .before .before .code .result) (encode (c .before .before .before .before .before .args .row) (c .before .before .before .before .before .args .values) 0 0 0) (c .before .before .code .ensures .0) (not-true (c .before .before .code .result .ok) (c .if1 .taken))
 
--- src/write.rt:89:8
 sub-if2 : tie.Need-sub-if2
 sub-if2 c = search needs
 
--- src/write.rt:89:8
 sub-if2-2 : tie.Need-sub-if2-2
 sub-if2-2 c = search needs
 
--- src/write.rt:90:9
 returns-2 : tie.Need-returns-2
 returns-2 c = too-long (c .before .before .before .before .before .before .args .kind) (c .before .before .before .before .before .before .args .tail .now) (c .before .before .before .before .before .before .args .buf .now) (c .before .before .before .code .result) (encode (c .before .before .before .before .before .before .args .row) (c .before .before .before .before .before .before .args .values) 0 0 0) (c .before .before .before .code .ensures .0) (not-false (c .before .before .before .code .result .ok) (c .before .if1 .left)) (c .before .before .before .code .ensures .1) (c .if2 .taken)
 
--- src/write.rt:95:17
 add-total : tie.Need-add-total
 add-total c = search needs
 
--- src/write.rt:95:17
 add-total-2 : tie.Need-add-total-2
 add-total-2 c = search needs
 
--- src/write.rt:97:9
 returns-3 : tie.Need-returns-3
 returns-3 c = too-small (c .before .before .before .before .before .before .before .args .kind) (c .before .before .before .before .before .before .before .args .tail .now) (c .before .before .before .before .before .before .before .args .buf .now) (c .before .before .before .before .code .result) (encode (c .before .before .before .before .before .before .before .args .row) (c .before .before .before .before .before .before .before .args .values) 0 0 0) (c .before .before .before .before .code .ensures .0) (not-false (c .before .before .before .before .code .result .ok) (c .before .before .if1 .left)) (c .before .before .before .before .code .ensures .1) (c .before .if2 .left) (c .if3 .taken)
 
--- src/write.rt:103:5
 write-requires : tie.Need-write-requires
 write-requires c κs = search needs
 
--- src/write.rt:104:23
 array-share-prefix-bytes : tie.Need-array-share-prefix-bytes
 array-share-prefix-bytes c = omega (arith, coded-length (c .before .before .before .before .before .before .before .before .before .before .code .result) (encode (c .before .before .before .before .before .before .before .before .before .before .before .before .before .args .row) (c .before .before .before .before .before .before .before .before .before .before .before .before .before .args .values) 0 0 0) (c .before .before .before .before .before .before .before .before .before .before .code .ensures .0), c .before .before .before .before .before .before .before .before .before .before .code .ensures .1)
 
--- src/write.rt:104:23
 slice-aggregate-part : tie.Need-slice-aggregate-part
 slice-aggregate-part c = sym (part-length (c .before .before .before .before .before .before .before .before .before .before .before .code .result) (encode (c .before .before .before .before .before .before .before .before .before .before .before .before .before .before .args .row) (c .before .before .before .before .before .before .before .before .before .before .before .before .before .before .args .values) 0 0 0) (c .before .before .before .before .before .before .before .before .before .before .before .code .ensures .0) (c .before .before .before .before .before .before .before .before .before .before .before .code .ensures .1))
 
--- src/write.rt:104:5
 part-requires : tie.Need-part-requires
 part-requires c κs = search needs
 
--- src/write.rt:105:20
 add-part : tie.Need-add-part
 add-part c = search needs
 
--- src/write.rt:105:5
 part-requires-2 : tie.Need-part-requires-2
 part-requires-2 c κs = search needs
 
--- src/write.rt:78:1
 same-length : tie.Need-same-length
 same-length c = search needs
 
--- src/write.rt:78:1
 returns-4 : tie.Need-returns-4
 returns-4 c = all-placed (c .before .before .before .before .before .before .before .before .before .before .before .before .before .before .before .before .before .before .before .before .before .args .kind) (c .before .before .before .before .before .before .before .before .before .before .before .before .before .before .before .before .before .before .before .before .before .args .tail .now) (c .before .before .before .before .before .before .before .before .before .before .before .before .before .before .before .before .before .before .before .before .before .args .buf .now) (c .before .before .before .before .before .before .before .before .before .before .before .before .before .before .before .before .before .before .code .result) (encode (c .before .before .before .before .before .before .before .before .before .before .before .before .before .before .before .before .before .before .before .before .before .args .row) (c .before .before .before .before .before .before .before .before .before .before .before .before .before .before .before .before .before .before .before .before .before .args .values) 0 0 0) (c .before .before .before .before .before .before .before .before .before .before .before .before .before .before .before .before .before .before .code .ensures .0) (not-false (c .before .before .before .before .before .before .before .before .before .before .before .before .before .before .before .before .before .before .code .result .ok) (c .before .before .before .before .before .before .before .before .before .before .before .before .before .before .before .before .if1 .left)) (c .before .before .before .before .before .before .before .before .before .before .before .before .before .before .before .before .before .before .code .ensures .1) (c .before .before .before .before .before .before .before .before .before .before .before .before .before .before .before .if2 .left) (c .before .before .before .before .before .before .before .before .before .before .before .before .before .before .if3 .left) (c .before .before .before .before .before .before .before .before .before .before .before .write .last .0) (c .before .before .before .before .before .before .part .last .0) (c .before .before .part2 .last .0) _ _ _ (c .before .before .before .before .before .before .before .before .before .before .before .write .ensures) (c .before .before .before .before .before .before .part .ensures) (c .before .before .part2 .ensures)
 

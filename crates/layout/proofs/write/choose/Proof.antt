@@ -2,14 +2,10 @@ use mathlib.Core.Path.{refl}
 use Rattle.numbers.proofs.Chain.{by-true, by-false}
 use Rattle.layout.proofs.write.choose.Statement.{statement}
 use Rattle.layout.proofs.write.choose.Tie as tie
-use Rattle.layout.proofs.write.choose.Reads as reads
-use Rattle.layout.proofs.write.choose.Lts as lts
 
--- src/write.rt:23:1
 returns : tie.Need-returns
 returns c = by-true _ _ _ _ (c .if1 .taken) refl
 
--- src/write.rt:23:1
 returns-2 : tie.Need-returns-2
 returns-2 c = by-false _ _ _ _ (c .if1 .left) refl
 

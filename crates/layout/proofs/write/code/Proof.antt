@@ -11,12 +11,6 @@ use Rattle.layout.specs.Write.{encode, codedOf}
 use Rattle.layout.proofs.Cases.{width-of, laid, too-low, too-high, further, all-laid}
 use Rattle.layout.proofs.write.code.Statement.{statement}
 use Rattle.layout.proofs.write.code.Tie as tie
-use Rattle.layout.proofs.write.code.Reads as reads
-use Rattle.layout.proofs.write.code.Lts as lts
-use Rattle.layout.proofs.rule.rule_of.Reads as rule-of-reads
-use Rattle.layout.proofs.write.choose.Reads as choose-reads
-use Rattle.layout.proofs.write.uncoded.Reads as uncoded-reads
-use Rattle.put.proofs.number.Reads as number-reads
 
 abbrev Inv-loop : tie.InvT-loop
 Inv-loop row values bytes₀ len₀ slot₀ version₀ flags₀ i₀ bytes len slot version flags i = (codedOf bytes len (encode (drop i row) values slot version flags) ≡ codedOf (zeros 192) 0 (encode row values 0 0 0)) × (len ≤ 8 * i) × (slot ≤ i) × (i ≤ 24) × (length bytes ≡ 192)
@@ -24,83 +18,63 @@ Inv-loop row values bytes₀ len₀ slot₀ version₀ flags₀ i₀ bytes len s
 abbrev μ-loop : tie.MeasureT-loop
 μ-loop row values bytes₀ len₀ slot₀ version₀ flags₀ i₀ bytes len slot version flags i = 24 - i
 
--- src/write.rt:49:5
 loop-holds : tie.Need-loop-holds Inv-loop μ-loop
 loop-holds c = (refl, omega arith, omega arith, omega arith, refl)
 
--- src/write.rt:50:17
 mul-f : tie.Need-mul-f Inv-loop μ-loop
 mul-f c = search needs
 
--- src/write.rt:50:17
 array-copy-out-f : tie.Need-array-copy-out-f Inv-loop μ-loop
 array-copy-out-f c = search needs
 
--- src/write.rt:51:13
 rule-of-requires : tie.Need-rule-of-requires Inv-loop μ-loop
 rule-of-requires c κs = search needs
 
--- src/write.rt:53:32
 mul-choose : tie.Need-mul-choose Inv-loop μ-loop
 mul-choose c = search needs
 
--- src/write.rt:53:32
 array-read-choose : tie.Need-array-read-choose Inv-loop μ-loop
 array-read-choose c = search needs
 
--- src/write.rt:53:13
 choose-requires : tie.Need-choose-requires Inv-loop μ-loop
 choose-requires c κs = search needs
 
--- src/write.rt:55:13
 uncoded-requires : tie.Need-uncoded-requires Inv-loop μ-loop
 uncoded-requires c κs = search needs
 
--- src/write.rt:55:13
 returns : tie.Need-returns Inv-loop μ-loop
 returns c = (c .uncoded .ensures ∙ too-low (c .before .before .before .before .before .before .before .before .args .t1) _ (c .before .before .before .before .before .before .before .before .args .t2) (c .before .before .before .before .before .before .before .loop .i) (c .before .before .before .before .before .before .before .loop .slot) (c .before .before .before .before .before .before .before .loop .version) (c .before .before .before .before .before .before .before .loop .flags) (c .before .before .before .before .before .before .before .loop .bytes) (c .before .before .before .before .before .before .before .loop .len) (c .before .before .before .before .rule-of .result) (c .before .before .before .choose .result) (search needs) (c .before .before .before .before .rule-of .ensures) (c .before .before .before .choose .ensures) (c .before .if1 .taken) ∙ c .before .before .before .before .before .before .before .loop .inv .0, omega (arith, ap (λ r. r .len) (c .uncoded .ensures)))
 
--- src/write.rt:58:13
 uncoded-requires-2 : tie.Need-uncoded-requires-2 Inv-loop μ-loop
 uncoded-requires-2 c κs = search needs
 
--- src/write.rt:58:13
 returns-2 : tie.Need-returns-2 Inv-loop μ-loop
 returns-2 c = (c .uncoded2 .ensures ∙ too-high (c .before .before .before .before .before .before .before .before .before .before .args .t1) _ (c .before .before .before .before .before .before .before .before .before .before .args .t2) (c .before .before .before .before .before .before .before .before .before .loop .i) (c .before .before .before .before .before .before .before .before .before .loop .slot) (c .before .before .before .before .before .before .before .before .before .loop .version) (c .before .before .before .before .before .before .before .before .before .loop .flags) (c .before .before .before .before .before .before .before .before .before .loop .bytes) (c .before .before .before .before .before .before .before .before .before .loop .len) (c .before .before .before .before .before .before .rule-of .result) (c .before .before .before .before .before .choose .result) (search needs) (c .before .before .before .before .before .before .rule-of .ensures) (c .before .before .before .before .before .choose .ensures) (c .before .before .before .if1 .left) (c .before .if2 .taken) ∙ c .before .before .before .before .before .before .before .before .before .loop .inv .0, omega (arith, ap (λ r. r .len) (c .uncoded2 .ensures)))
 
--- src/write.rt:60:21
 slice-aggregate-number : tie.Need-slice-aggregate-number Inv-loop μ-loop
 slice-aggregate-number c = search needs
 
--- src/write.rt:60:9
 number-requires : tie.Need-number-requires Inv-loop μ-loop
 number-requires c κs = search needs
 
--- src/write.rt:62:20
 add-slot : tie.Need-add-slot Inv-loop μ-loop
 add-slot c = search needs
 
--- src/write.rt:64:9
 choose-requires-2 : tie.Need-choose-requires-2 Inv-loop μ-loop
 choose-requires-2 c κs = search needs
 
--- src/write.rt:65:9
 choose-requires-3 : tie.Need-choose-requires-3 Inv-loop μ-loop
 choose-requires-3 c κs = search needs
 
--- src/write.rt:66:15
 add-len : tie.Need-add-len Inv-loop μ-loop
 add-len c = let h = width-of _ _ _ _ (c .before .before .before .before .before .before .before .before .before .before .before .rule-of .ensures) in omega arith
 
--- src/write.rt:67:13
 add-i : tie.Need-add-i Inv-loop μ-loop
 add-i c = search needs
 
--- src/write.rt:49:5
 loop-less : tie.Need-loop-less Inv-loop μ-loop
 loop-less c = search needs
 
--- src/write.rt:49:5
 loop-again : tie.Need-loop-again Inv-loop μ-loop
 loop-again c = let h = width-of _ _ _ _ (c .before .before .before .before .before .before .before .before .before .before .before .rule-of .ensures) in
     let stored = laid _ _ _ _ _ (c .before .before .before .before .before .before .before .before .before .before .before .rule-of .ensures) (c .before .before .before .before .before .before .if2 .left) (c .before .before .before .before .before .before .before .before .before .before .before .before .before .before .loop .len) (c .before .before .before .before .before .before .before .before .before .before .before .before .before .before .loop .bytes) _ _ (omega (arith, c .before .before .before .before .before .before .before .before .before .before .before .before .before .before .loop .inv .4)) (c .before .before .before .before .number .ensures) in (
@@ -113,7 +87,6 @@ loop-again c = let h = width-of _ _ _ _ (c .before .before .before .before .befo
       ap length stored ∙ simp length-sets (c .before .before .before .before .before .before .before .before .before .before .before .before .before .before .loop .inv .4),
     )
 
--- src/write.rt:40:1
 returns-3 : tie.Need-returns-3 Inv-loop μ-loop
 returns-3 c = (all-laid (c .before .before .args .t1) (c .before .before .args .t2) (c .before .loop .i) (c .before .loop .slot) (c .before .loop .version) (c .before .loop .flags) (c .before .loop .bytes) (c .before .loop .len) (omega arith) ∙ c .before .loop .inv .0, omega arith)
 

@@ -9,67 +9,50 @@ use Rattle.movie.specs.declared.mdhd.Found.the-variants.{Is, Refused}
 use borrow.Author.Needs.{needs}
 use Rattle.movie.proofs.mdhd.read.Statement.{statement}
 use Rattle.movie.proofs.mdhd.read.Tie as tie
-use Rattle.movie.proofs.mdhd.read.Reads as reads
-use Rattle.movie.proofs.mdhd.read.Lts as lts
-use Rattle.layout.proofs.read.by.Reads as by-reads
 
--- src/mdhd.rt:56:9
 by-requires : tie.Need-by-requires
 by-requires c κs = search needs
 
--- src/mdhd.rt:58:9
 returns : tie.Need-returns
 returns c = told-no Is Refused from _ _ (c .before .before .by .ensures) (c .if1 .taken)
 
--- src/mdhd.rt:65:18
 array-read-t33 : tie.Need-array-read-t33
 array-read-t33 c = search needs
 
--- src/mdhd.rt:65:18
 cast-t34 : tie.Need-cast-t34
 unfolding limit most ruleOf when
 cast-t34 c = omega (arith, fits kind fields (c .before .before .before .before .before .args .part .now) 0 1 _ (c .before .before .before .by .ensures) refl)
 
--- src/mdhd.rt:66:16
 array-read-t37 : tie.Need-array-read-t37
 array-read-t37 c = search needs
 
--- src/mdhd.rt:66:16
 cast-t38 : tie.Need-cast-t38
 unfolding limit most ruleOf when
 cast-t38 c = omega (arith, fits kind fields (c .before .before .before .before .before .args .part .now) 1 16777215 _ (c .before .before .before .by .ensures) refl)
 
--- src/mdhd.rt:67:24
 array-read-t41 : tie.Need-array-read-t41
 array-read-t41 c = search needs
 
--- src/mdhd.rt:68:28
 array-read-t44 : tie.Need-array-read-t44
 array-read-t44 c = search needs
 
--- src/mdhd.rt:69:20
 array-read-t47 : tie.Need-array-read-t47
 array-read-t47 c = search needs
 
--- src/mdhd.rt:69:20
 cast-t48 : tie.Need-cast-t48
 unfolding limit most ruleOf when
 cast-t48 c = omega (arith, fits kind fields (c .before .before .before .before .before .args .part .now) 4 4294967295 _ (c .before .before .before .by .ensures) refl)
 
--- src/mdhd.rt:70:19
 array-read-t51 : tie.Need-array-read-t51
 array-read-t51 c = search needs
 
--- src/mdhd.rt:71:19
 array-read-t54 : tie.Need-array-read-t54
 array-read-t54 c = search needs
 
--- src/mdhd.rt:71:19
 cast-t55 : tie.Need-cast-t55
 unfolding limit most ruleOf when
 cast-t55 c = omega (arith, fits kind fields (c .before .before .before .before .before .args .part .now) 6 65535 _ (c .before .before .before .by .ensures) refl)
 
--- src/mdhd.rt:53:1
 returns-2 : tie.Need-returns-2
 returns-2 c = told-is Is Refused from _ _ (c .before .before .before .by .ensures) (c .before .if1 .left)
 

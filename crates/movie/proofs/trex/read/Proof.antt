@@ -9,82 +9,62 @@ use Rattle.movie.specs.declared.trex.Found.the-variants.{Is, Refused}
 use borrow.Author.Needs.{needs}
 use Rattle.movie.proofs.trex.read.Statement.{statement}
 use Rattle.movie.proofs.trex.read.Tie as tie
-use Rattle.movie.proofs.trex.read.Reads as reads
-use Rattle.movie.proofs.trex.read.Lts as lts
-use Rattle.layout.proofs.read.by.Reads as by-reads
 
--- src/trex.rt:56:9
 by-requires : tie.Need-by-requires
 by-requires c κs = search needs
 
--- src/trex.rt:58:9
 returns : tie.Need-returns
 returns c = told-no Is Refused from _ _ (c .before .before .by .ensures) (c .if1 .taken)
 
--- src/trex.rt:65:18
 array-read-t33 : tie.Need-array-read-t33
 array-read-t33 c = search needs
 
--- src/trex.rt:65:18
 cast-t34 : tie.Need-cast-t34
 unfolding limit most ruleOf when
 cast-t34 c = omega (arith, fits kind fields (c .before .before .before .before .before .args .part .now) 0 0 _ (c .before .before .before .by .ensures) refl)
 
--- src/trex.rt:66:16
 array-read-t37 : tie.Need-array-read-t37
 array-read-t37 c = search needs
 
--- src/trex.rt:66:16
 cast-t38 : tie.Need-cast-t38
 unfolding limit most ruleOf when
 cast-t38 c = omega (arith, fits kind fields (c .before .before .before .before .before .args .part .now) 1 16777215 _ (c .before .before .before .by .ensures) refl)
 
--- src/trex.rt:67:19
 array-read-t41 : tie.Need-array-read-t41
 array-read-t41 c = search needs
 
--- src/trex.rt:67:19
 cast-t42 : tie.Need-cast-t42
 unfolding limit most ruleOf when
 cast-t42 c = omega (arith, fits kind fields (c .before .before .before .before .before .args .part .now) 2 4294967295 _ (c .before .before .before .by .ensures) refl)
 
--- src/trex.rt:68:43
 array-read-t45 : tie.Need-array-read-t45
 array-read-t45 c = search needs
 
--- src/trex.rt:68:43
 cast-t46 : tie.Need-cast-t46
 unfolding limit most ruleOf when
 cast-t46 c = omega (arith, fits kind fields (c .before .before .before .before .before .args .part .now) 3 4294967295 _ (c .before .before .before .by .ensures) refl)
 
--- src/trex.rt:69:34
 array-read-t49 : tie.Need-array-read-t49
 array-read-t49 c = search needs
 
--- src/trex.rt:69:34
 cast-t50 : tie.Need-cast-t50
 unfolding limit most ruleOf when
 cast-t50 c = omega (arith, fits kind fields (c .before .before .before .before .before .args .part .now) 4 4294967295 _ (c .before .before .before .by .ensures) refl)
 
--- src/trex.rt:70:30
 array-read-t53 : tie.Need-array-read-t53
 array-read-t53 c = search needs
 
--- src/trex.rt:70:30
 cast-t54 : tie.Need-cast-t54
 unfolding limit most ruleOf when
 cast-t54 c = omega (arith, fits kind fields (c .before .before .before .before .before .args .part .now) 5 4294967295 _ (c .before .before .before .by .ensures) refl)
 
--- src/trex.rt:71:31
 array-read-t57 : tie.Need-array-read-t57
 array-read-t57 c = search needs
 
--- src/trex.rt:71:31
 cast-t58 : tie.Need-cast-t58
 unfolding limit most ruleOf when
 cast-t58 c = omega (arith, fits kind fields (c .before .before .before .before .before .args .part .now) 6 4294967295 _ (c .before .before .before .by .ensures) refl)
 
--- src/trex.rt:53:1
 returns-2 : tie.Need-returns-2
 returns-2 c = told-is Is Refused from _ _ (c .before .before .before .by .ensures) (c .before .if1 .left)
 

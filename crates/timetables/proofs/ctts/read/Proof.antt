@@ -11,76 +11,56 @@ use Rattle.timetables.specs.declared.ctts.Found.the-variants.{Is, Refuse
 use borrow.Author.Needs.{needs}
 use Rattle.timetables.proofs.ctts.read.Statement.{statement}
 use Rattle.timetables.proofs.ctts.read.Tie as tie
-use Rattle.timetables.proofs.ctts.read.Reads as reads
-use Rattle.timetables.proofs.ctts.read.Lts as lts
-use Rattle.layout.proofs.read.by.Reads as by-reads
-use Rattle.layout.proofs.table.first_cut.Reads as first-cut-reads
 
--- src/ctts.rt:56:9
 by-requires : tie.Need-by-requires
 by-requires c κs = search needs
 
--- src/ctts.rt:58:9
 returns : tie.Need-returns
 returns c = table-no Is Refused from cells 4 (c .before .before .before .before .args .part .now) _ _ (c .before .before .by .ensures) (c .if1 .taken)
 
--- src/ctts.rt:67:18
 array-read-t39 : tie.Need-array-read-t39
 array-read-t39 c = search needs
 
--- src/ctts.rt:67:18
 cast-t40 : tie.Need-cast-t40
 unfolding limit most ruleOf when
 cast-t40 c = omega (arith, fits kind fields (c .before .before .before .before .before .args .part .now) 0 1 _ (c .before .before .before .by .ensures) refl)
 
--- src/ctts.rt:68:16
 array-read-t43 : tie.Need-array-read-t43
 array-read-t43 c = search needs
 
--- src/ctts.rt:68:16
 cast-t44 : tie.Need-cast-t44
 unfolding limit most ruleOf when
 cast-t44 c = omega (arith, fits kind fields (c .before .before .before .before .before .args .part .now) 1 16777215 _ (c .before .before .before .by .ensures) refl)
 
--- src/ctts.rt:69:16
 array-read-t47 : tie.Need-array-read-t47
 array-read-t47 c = search needs
 
--- src/ctts.rt:69:16
 cast-t48 : tie.Need-cast-t48
 unfolding limit most ruleOf when
 cast-t48 c = omega (arith, fits kind fields (c .before .before .before .before .before .args .part .now) 2 4294967295 _ (c .before .before .before .by .ensures) refl)
 
--- src/ctts.rt:71:17
 array-read-cells : tie.Need-array-read-cells
 array-read-cells c = search needs
 
--- src/ctts.rt:71:17
 mul-cells : tie.Need-mul-cells
 unfolding limit most ruleOf when
 mul-cells c = omega (arith, fits kind fields (c .before .before .before .before .before .args .part .now) 2 4294967295 _ (c .before .before .before .by .ensures) refl)
 
--- src/ctts.rt:72:40
 slice-aggregate-first-cut : tie.Need-slice-aggregate-first-cut
 slice-aggregate-first-cut c = sym (length-take-le _ (c .before .before .before .before .before .before .args .part .now) (end-in kind fields (c .before .before .before .before .before .before .args .part .now) _ (c .before .before .before .before .by .ensures)))
 
--- src/ctts.rt:72:9
 first-cut-requires : tie.Need-first-cut-requires
 first-cut-requires c κs = search needs
 
--- src/ctts.rt:74:23
 enum-told : tie.Need-enum-told
 enum-told c = search needs
 
--- src/ctts.rt:75:17
 enum-known-cut : tie.Need-enum-known-cut
 enum-known-cut c = search needs
 
--- src/ctts.rt:53:1
 returns-2 : tie.Need-returns-2
 returns-2 c = table-is Is Refused from cells 4 (c .before .before .before .before .before .before .before .before .before .args .part .now) _ _ (c .before .before .before .before .before .before .before .by .ensures) (c .before .before .before .before .before .if1 .left) _ (c .before .before .first-cut .ensures) (c .enum-told .given .1)
 
--- src/ctts.rt:53:1
 returns-3 : tie.Need-returns-3
 returns-3 c = table-cut Is Refused from cells 4 (c .before .before .before .before .before .before .before .before .before .before .args .part .now) _ _ (c .before .before .before .before .before .before .before .before .by .ensures) (c .before .before .before .before .before .before .if1 .left) _ _ (c .before .before .before .first-cut .ensures) (c .before .cut .given .1)
 

@@ -5,59 +5,43 @@ use Rattle.numbers.proofs.Chain.{is-eq, is-ne}
 use borrow.Author.Needs.{needs}
 use Rattle.timetables.proofs.ctts.write.Statement.{statement}
 use Rattle.timetables.proofs.ctts.write.Tie as tie
-use Rattle.timetables.proofs.ctts.write.Reads as reads
-use Rattle.timetables.proofs.ctts.write.Lts as lts
-use Rattle.layout.proofs.write.by.Reads as by-reads
 
--- src/ctts.rt:86:16
 cast-size : tie.Need-cast-size
 cast-size c = search needs
 
--- src/ctts.rt:86:16
 mul-size : tie.Need-mul-size
 mul-size c = search needs
 
--- src/ctts.rt:86:16
 mul-size-2 : tie.Need-mul-size-2
 mul-size-2 c = search needs
 
--- src/ctts.rt:88:9
 returns : tie.Need-returns
 returns c = is-ne _ _ _ (length (c .before .before .before .before .args .entries .now)) (c .before .before .before .before .args .ctts .count * 2 * 4) (c .if1 .taken) refl
 
--- src/ctts.rt:94:12
 cast-v : tie.Need-cast-v
 cast-v c = search needs
 
--- src/ctts.rt:94:5
 array-write-v : tie.Need-array-write-v
 array-write-v c = search needs
 
--- src/ctts.rt:95:12
 cast-v-2 : tie.Need-cast-v-2
 cast-v-2 c = search needs
 
--- src/ctts.rt:95:5
 array-write-v-2 : tie.Need-array-write-v-2
 array-write-v-2 c = search needs
 
--- src/ctts.rt:96:12
 cast-v-3 : tie.Need-cast-v-3
 cast-v-3 c = search needs
 
--- src/ctts.rt:96:5
 array-write-v-3 : tie.Need-array-write-v-3
 array-write-v-3 c = search needs
 
--- src/ctts.rt:97:5
 by-requires : tie.Need-by-requires
 by-requires c κs = search needs
 
--- src/ctts.rt:83:1
 same-length : tie.Need-same-length
 same-length c = search needs
 
--- src/ctts.rt:83:1
 returns-2 : tie.Need-returns-2
 returns-2 c = is-eq _ _ _ (length (c .before .before .before .before .before .before .before .before .before .before .before .args .entries .now)) (c .before .before .before .before .before .before .before .before .before .before .before .args .ctts .count * 2 * 4) (c .before .before .before .before .before .before .before .if1 .left) (c .before .before .by .ensures)
 

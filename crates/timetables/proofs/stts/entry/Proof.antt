@@ -3,55 +3,40 @@ use Rattle.numbers.proofs.Chain.{by32, has, lacks, ends}
 use borrow.Author.Needs.{needs}
 use Rattle.timetables.proofs.stts.entry.Statement.{statement}
 use Rattle.timetables.proofs.stts.entry.Tie as tie
-use Rattle.timetables.proofs.stts.entry.Reads as reads
-use Rattle.timetables.proofs.stts.entry.Lts as lts
-use Rattle.numbers.proofs.u32_at.Reads as u32-at-reads
 
--- src/stts.rt:114:14
 mul-at : tie.Need-mul-at
 mul-at c = search needs
 
--- src/stts.rt:115:26
 u32-at-requires : tie.Need-u32-at-requires
 u32-at-requires c κs = search needs
 
--- src/stts.rt:115:17
 enum-known-count : tie.Need-enum-known-count
 enum-known-count c = search needs
 
--- src/stts.rt:116:32
 enum-told : tie.Need-enum-told
 enum-told c = search needs
 
--- src/stts.rt:116:9
 returns : tie.Need-returns
 returns c = ends 4 _ _ _ _ _ (lacks by32 4 _ _ _ (c .before .before .u32-at .ensures) _ (c .enum-told .given .1)) refl
 
--- src/stts.rt:121:51
 add-u32-at : tie.Need-add-u32-at
 add-u32-at c = search needs
 
--- src/stts.rt:121:26
 u32-at-requires-2 : tie.Need-u32-at-requires-2
 u32-at-requires-2 c κs = search needs
 
--- src/stts.rt:121:17
 enum-known-delta : tie.Need-enum-known-delta
 enum-known-delta c = search needs
 
--- src/stts.rt:124:21
 enum-told-2 : tie.Need-enum-told-2
 enum-told-2 c = search needs
 
--- src/stts.rt:124:21
 add-t10 : tie.Need-add-t10
 add-t10 c = search needs
 
--- src/stts.rt:122:9
 returns-2 : tie.Need-returns-2
 returns-2 c = has by32 4 _ _ _ (c .before .before .before .before .before .before .u32-at .ensures) _ _ _ _ (c .before .before .before .before .count .given .1) (ends 4 _ _ _ _ _ (lacks by32 4 _ _ _ (c .before .before .u32-at2 .ensures) _ (c .enum-told2 .given .1)) refl)
 
--- src/stts.rt:111:1
 returns-3 : tie.Need-returns-3
 returns-3 c = has by32 4 _ _ _ (c .before .before .before .before .before .before .before .u32-at .ensures) _ _ _ _ (c .before .before .before .before .before .count .given .1) (has by32 4 _ _ _ (c .before .before .before .u32-at2 .ensures) _ _ _ _ (c .before .delta .given .1) refl)
 

@@ -9,184 +9,141 @@ use Rattle.tracks.specs.declared.tkhd.Found.the-variants.{Is, Refused}
 use borrow.Author.Needs.{needs}
 use Rattle.tracks.proofs.tkhd.read.Statement.{statement}
 use Rattle.tracks.proofs.tkhd.read.Tie as tie
-use Rattle.tracks.proofs.tkhd.read.Reads as reads
-use Rattle.tracks.proofs.tkhd.read.Lts as lts
-use Rattle.layout.proofs.read.by.Reads as by-reads
 
--- src/tkhd.rt:69:9
 by-requires : tie.Need-by-requires
 by-requires c κs = search needs
 
--- src/tkhd.rt:71:9
 returns : tie.Need-returns
 returns c = told-no Is Refused from _ _ (c .before .before .by .ensures) (c .if1 .taken)
 
--- src/tkhd.rt:78:18
 array-read-t33 : tie.Need-array-read-t33
 array-read-t33 c = search needs
 
--- src/tkhd.rt:78:18
 cast-t34 : tie.Need-cast-t34
 unfolding limit most ruleOf when
 cast-t34 c = omega (arith, fits kind fields (c .before .before .before .before .before .args .part .now) 0 1 _ (c .before .before .before .by .ensures) refl)
 
--- src/tkhd.rt:79:16
 array-read-t37 : tie.Need-array-read-t37
 array-read-t37 c = search needs
 
--- src/tkhd.rt:79:16
 cast-t38 : tie.Need-cast-t38
 unfolding limit most ruleOf when
 cast-t38 c = omega (arith, fits kind fields (c .before .before .before .before .before .args .part .now) 1 16777215 _ (c .before .before .before .by .ensures) refl)
 
--- src/tkhd.rt:80:24
 array-read-t41 : tie.Need-array-read-t41
 array-read-t41 c = search needs
 
--- src/tkhd.rt:81:28
 array-read-t44 : tie.Need-array-read-t44
 array-read-t44 c = search needs
 
--- src/tkhd.rt:82:19
 array-read-t47 : tie.Need-array-read-t47
 array-read-t47 c = search needs
 
--- src/tkhd.rt:82:19
 cast-t48 : tie.Need-cast-t48
 unfolding limit most ruleOf when
 cast-t48 c = omega (arith, fits kind fields (c .before .before .before .before .before .args .part .now) 4 4294967295 _ (c .before .before .before .by .ensures) refl)
 
--- src/tkhd.rt:83:19
 array-read-t51 : tie.Need-array-read-t51
 array-read-t51 c = search needs
 
--- src/tkhd.rt:84:16
 array-read-t54 : tie.Need-array-read-t54
 array-read-t54 c = search needs
 
--- src/tkhd.rt:84:16
 cast-t55 : tie.Need-cast-t55
 unfolding limit most ruleOf when
 cast-t55 c = omega (arith, fits kind fields (c .before .before .before .before .before .args .part .now) 6 65535 _ (c .before .before .before .by .ensures) refl)
 
--- src/tkhd.rt:85:26
 array-read-t58 : tie.Need-array-read-t58
 array-read-t58 c = search needs
 
--- src/tkhd.rt:85:26
 cast-t59 : tie.Need-cast-t59
 unfolding limit most ruleOf when
 cast-t59 c = omega (arith, fits kind fields (c .before .before .before .before .before .args .part .now) 7 65535 _ (c .before .before .before .by .ensures) refl)
 
--- src/tkhd.rt:86:17
 array-read-t62 : tie.Need-array-read-t62
 array-read-t62 c = search needs
 
--- src/tkhd.rt:86:17
 cast-t63 : tie.Need-cast-t63
 unfolding limit most ruleOf when
 cast-t63 c = omega (arith, fits kind fields (c .before .before .before .before .before .args .part .now) 8 65535 _ (c .before .before .before .by .ensures) refl)
 
--- src/tkhd.rt:87:19
 array-read-t66 : tie.Need-array-read-t66
 array-read-t66 c = search needs
 
--- src/tkhd.rt:87:19
 cast-t67 : tie.Need-cast-t67
 unfolding limit most ruleOf when
 cast-t67 c = omega (arith, fits kind fields (c .before .before .before .before .before .args .part .now) 9 4294967295 _ (c .before .before .before .by .ensures) refl)
 
--- src/tkhd.rt:88:19
 array-read-t70 : tie.Need-array-read-t70
 array-read-t70 c = search needs
 
--- src/tkhd.rt:88:19
 cast-t71 : tie.Need-cast-t71
 unfolding limit most ruleOf when
 cast-t71 c = omega (arith, fits kind fields (c .before .before .before .before .before .args .part .now) 10 4294967295 _ (c .before .before .before .by .ensures) refl)
 
--- src/tkhd.rt:89:19
 array-read-t74 : tie.Need-array-read-t74
 array-read-t74 c = search needs
 
--- src/tkhd.rt:89:19
 cast-t75 : tie.Need-cast-t75
 unfolding limit most ruleOf when
 cast-t75 c = omega (arith, fits kind fields (c .before .before .before .before .before .args .part .now) 11 4294967295 _ (c .before .before .before .by .ensures) refl)
 
--- src/tkhd.rt:90:19
 array-read-t78 : tie.Need-array-read-t78
 array-read-t78 c = search needs
 
--- src/tkhd.rt:90:19
 cast-t79 : tie.Need-cast-t79
 unfolding limit most ruleOf when
 cast-t79 c = omega (arith, fits kind fields (c .before .before .before .before .before .args .part .now) 12 4294967295 _ (c .before .before .before .by .ensures) refl)
 
--- src/tkhd.rt:91:19
 array-read-t82 : tie.Need-array-read-t82
 array-read-t82 c = search needs
 
--- src/tkhd.rt:91:19
 cast-t83 : tie.Need-cast-t83
 unfolding limit most ruleOf when
 cast-t83 c = omega (arith, fits kind fields (c .before .before .before .before .before .args .part .now) 13 4294967295 _ (c .before .before .before .by .ensures) refl)
 
--- src/tkhd.rt:92:19
 array-read-t86 : tie.Need-array-read-t86
 array-read-t86 c = search needs
 
--- src/tkhd.rt:92:19
 cast-t87 : tie.Need-cast-t87
 unfolding limit most ruleOf when
 cast-t87 c = omega (arith, fits kind fields (c .before .before .before .before .before .args .part .now) 14 4294967295 _ (c .before .before .before .by .ensures) refl)
 
--- src/tkhd.rt:93:19
 array-read-t90 : tie.Need-array-read-t90
 array-read-t90 c = search needs
 
--- src/tkhd.rt:93:19
 cast-t91 : tie.Need-cast-t91
 unfolding limit most ruleOf when
 cast-t91 c = omega (arith, fits kind fields (c .before .before .before .before .before .args .part .now) 15 4294967295 _ (c .before .before .before .by .ensures) refl)
 
--- src/tkhd.rt:94:19
 array-read-t94 : tie.Need-array-read-t94
 array-read-t94 c = search needs
 
--- src/tkhd.rt:94:19
 cast-t95 : tie.Need-cast-t95
 unfolding limit most ruleOf when
 cast-t95 c = omega (arith, fits kind fields (c .before .before .before .before .before .args .part .now) 16 4294967295 _ (c .before .before .before .by .ensures) refl)
 
--- src/tkhd.rt:95:19
 array-read-t98 : tie.Need-array-read-t98
 array-read-t98 c = search needs
 
--- src/tkhd.rt:95:19
 cast-t99 : tie.Need-cast-t99
 unfolding limit most ruleOf when
 cast-t99 c = omega (arith, fits kind fields (c .before .before .before .before .before .args .part .now) 17 4294967295 _ (c .before .before .before .by .ensures) refl)
 
--- src/tkhd.rt:96:16
 array-read-t102 : tie.Need-array-read-t102
 array-read-t102 c = search needs
 
--- src/tkhd.rt:96:16
 cast-t103 : tie.Need-cast-t103
 unfolding limit most ruleOf when
 cast-t103 c = omega (arith, fits kind fields (c .before .before .before .before .before .args .part .now) 18 4294967295 _ (c .before .before .before .by .ensures) refl)
 
--- src/tkhd.rt:97:17
 array-read-t106 : tie.Need-array-read-t106
 array-read-t106 c = search needs
 
--- src/tkhd.rt:97:17
 cast-t107 : tie.Need-cast-t107
 unfolding limit most ruleOf when
 cast-t107 c = omega (arith, fits kind fields (c .before .before .before .before .before .args .part .now) 19 4294967295 _ (c .before .before .before .by .ensures) refl)
 
--- src/tkhd.rt:66:1
 returns-2 : tie.Need-returns-2
 returns-2 c = told-is Is Refused from _ _ (c .before .before .before .by .ensures) (c .before .if1 .left)
 

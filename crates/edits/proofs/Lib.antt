@@ -1,0 +1,3 @@
+pub mod ElstLaws
+mod Unique
+pub mod Edits

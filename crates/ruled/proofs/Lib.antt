@@ -1,0 +1,3 @@
+pub mod StssLaws
+mod Unique
+pub mod StscLaws

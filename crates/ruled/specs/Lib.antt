@@ -1,0 +1,2 @@
+pub mod Stss
+pub mod Stsc

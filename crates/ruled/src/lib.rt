@@ -1,0 +1,2 @@
+pub mod stsc;
+pub mod stss;
