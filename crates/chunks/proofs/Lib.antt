@@ -1,3 +1,4 @@
 pub mod StcoLaws
 mod Unique
 pub mod Co64Laws
+mod Vectors

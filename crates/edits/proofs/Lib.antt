@@ -1,3 +1,4 @@
 pub mod ElstLaws
 mod Unique
 pub mod Edits
+mod Vectors

@@ -1,4 +1,5 @@
 pub mod MfhdLaws
+mod Vectors
 mod Unique
 pub mod TfdtLaws
 pub mod TfhdLaws

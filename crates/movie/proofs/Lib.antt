@@ -1,3 +1,4 @@
 pub mod MdhdLaws
 mod Unique
 pub mod TrexLaws
+mod Vectors

@@ -1,3 +1,4 @@
 pub mod Cells
 pub mod Moved
 mod Unique
+mod Vectors

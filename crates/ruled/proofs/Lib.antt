@@ -1,3 +1,4 @@
 pub mod StssLaws
 mod Unique
 pub mod StscLaws
+mod Vectors

@@ -1,3 +1,4 @@
 pub mod SttsLaws
 mod Unique
 pub mod CttsLaws
+mod Vectors

@@ -1,2 +1,3 @@
 pub mod TkhdLaws
 mod Unique
+mod Vectors
