@@ -6,6 +6,7 @@ use Rattle.types.proofs.fixed.raw16.Reads as raw16
 use Rattle.types.proofs.fixed.whole16.Reads as whole16
 use Rattle.types.proofs.letters.number_of.Reads as number-of
 use Rattle.types.proofs.letters.of_number.Reads as of-number
+use Rattle.types.proofs.duration.micros.Reads as micros
 
 raw8-fixed : (κs : _) (a : _) (r q : _) (s t : _) → raw8.Post κs a r s → raw8.Post κs a q t → r ≡ q
 raw8-fixed κs a r q s t p o = p ∙ sym o
@@ -24,3 +25,6 @@ number-of-fixed κs a r q s t p o = p ∙ sym o
 
 of-number-fixed : (κs : _) (a : _) (r q : _) (s t : _) → of-number.Post κs a r s → of-number.Post κs a q t → r ≡ q
 of-number-fixed κs a r q s t p o = p ∙ sym o
+
+micros-fixed : (κs : _) (a : _) (r q : _) (s t : _) → micros.Post κs a r s → micros.Post κs a q t → r ≡ q
+micros-fixed κs a r q s t p o = p ∙ sym o

@@ -3,7 +3,10 @@ use mathlib.Core.Path.{_≡_, refl}
 use mathlib.Core.List.{[], _∷_}
 use Prim.Native.Nat.{_+_, _*_}
 use Rattle.numbers.specs.Number.{be}
+use Rattle.numbers.specs.Field.{refusal, when}
+use Rattle.numbers.specs.declared.U64.the-variants as number
 use Rattle.types.specs.Fixed.{rawOf, wholeOf}
+use Rattle.types.specs.Duration.{microsOf}
 
 -- 'moov'
 moov : be 4 (0x6d ∷ 0x6f ∷ 0x6f ∷ 0x76 ∷ []) 0 ≡ 0x6d6f6f76
@@ -16,3 +19,21 @@ width-640 = refl
 
 half-left : wholeOf 2 (640 * 65536 + 32768) ≡ 640
 half-left = refl
+
+-- case 5: timescale 1, duration 18,446,744,073,709 fits; one more is 9
+case-5-fits : microsOf 18_446_744_073_709 1 ≡ number.Is 18_446_744_073_709_000_000
+unfolding when
+case-5-fits = refl
+
+case-5-one-more : microsOf 18_446_744_073_710 1 ≡ number.Refused (refusal 9 0)
+unfolding when
+case-5-one-more = refl
+
+-- rounded down; and a timescale of 0 is 8, however long the duration
+third : microsOf 1 3 ≡ number.Is 333_333
+unfolding when
+third = refl
+
+no-timescale : microsOf 18_446_744_073_710 0 ≡ number.Refused (refusal 8 0)
+unfolding when
+no-timescale = refl

@@ -1,3 +1,4 @@
 // Values of the boxes that are no plain numbers.
+pub mod duration;
 pub mod fixed;
 pub mod letters;
