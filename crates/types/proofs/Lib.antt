@@ -1,3 +1,4 @@
 pub mod Laws
+pub mod LanguageLaws
 mod Vectors
 mod Unique
