@@ -1,0 +1,3 @@
+pub mod HdlrLaws
+mod Unique
+mod Vectors
