@@ -1,0 +1,35 @@
+-- Where the media data of a track lie (ISO/IEC 14496-12, 8.7.2): flag 1 says in the same file; the location is the rest of the box. Assumes nothing.
+use Prim.Native.Nat.{ℕ, _-_}
+use mathlib.Core.List.{List, [], _∷_}
+use lib.ListN.{getD, take, drop}
+use Rattle.put.specs.Put.{Wrote}
+use Rattle.layout.specs.Read.{readOf, answer}
+use Rattle.layout.specs.Write.{writeOf, padded, slotted}
+use Rattle.layout.specs.declared.Field.{Field}
+use Rattle.layout.specs.declared.Field.the-variants.{Version, Flags}
+use Rattle.references.specs.declared.url.Url.{Url}
+use Rattle.references.specs.declared.url.Found.{Found}
+use Rattle.references.specs.declared.url.Found.the-variants.{Is, Refused}
+
+abbrev pub kind : ℕ
+kind = 0x75726c20
+
+abbrev pub fields : List Field
+fields = padded (Version 0 0 ∷ Flags ∷ [])
+
+-- the record from its slots, and back
+abbrev pub from : List ℕ → Url
+from v = record { version = getD v 0 0; flags = getD v 1 0 }
+
+abbrev pub to : Url → List ℕ
+to m = slotted (m .version ∷ m .flags ∷ [])
+
+abbrev pub urlOf : List ℕ → Found
+urlOf part = answer Is Refused from (readOf kind fields part)
+
+-- the location: what lies behind the fields, up to the box's end (a box that is refused ends at 0)
+abbrev pub locationOf : List ℕ → List ℕ
+locationOf part = let f = readOf kind fields part in take (f .end - f .place) (drop (f .place) part)
+
+abbrev pub urlIn : Url → List ℕ → List ℕ → Wrote
+urlIn m location out = writeOf kind fields (to m) location out
