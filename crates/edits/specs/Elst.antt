@@ -1,4 +1,5 @@
--- The edit list (ISO/IEC 14496-12, 8.6.6): a count, and as many edits, with times of 4 bytes in version 0 and of 8 in version 1. A media time of -1 is an empty edit; below it is 8. Assumes nothing.
+-- The edit list (ISO/IEC 14496-12, 8.6.6): a count, and as many edits, with times of 4 bytes in version 0 and of 8 in
+-- version 1. A media time of -1 is an empty edit; below it is 8. Assumes nothing.
 use Prim.Native.Nat.{ℕ, _+_, _*_}
 use mathlib.Core.List.{List, [], _∷_}
 use lib.ListN.{getD}

@@ -1,4 +1,5 @@
-// The edit list (ISO/IEC 14496-12, 8.6.6): a count, and as many edits, with times of 4 bytes in version 0 and of 8 in version 1. A media time of -1 is an empty edit; below it is 8.
+// The edit list (ISO/IEC 14496-12, 8.6.6): a count, and as many edits, with times of 4 bytes in version 0 and of 8 in
+// version 1. A media time of -1 is an empty edit; below it is 8.
 ghost use mathlib.Core.Path.{_≡_};
 ghost use Rattle.put.specs.Put.{wrote};
 ghost use Prim.Native.Nat.{_*_};

@@ -1,4 +1,5 @@
--- The track fragment header (ISO/IEC 14496-12, 8.8.7). A field whose flag is not set is 0; a track number of 0 is 8. Assumes nothing.
+-- The track fragment header (ISO/IEC 14496-12, 8.8.7). A field whose flag is not set is 0; a track number of 0 is 8.
+-- Assumes nothing.
 use Prim.Native.Nat.{ℕ}
 use mathlib.Core.List.{List, [], _∷_}
 use lib.ListN.{getD}

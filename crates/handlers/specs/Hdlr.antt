@@ -1,9 +1,10 @@
--- The handler of a track (ISO/IEC 14496-12, 8.4.3): four letters of any kind (A26), and a name, which is the rest of the box. Assumes nothing.
-use Prim.Native.Nat.{ℕ, _-_}
+-- The handler of a track (ISO/IEC 14496-12, 8.4.3): four letters of any kind (A26), and a name, which is the rest of
+-- the box. Assumes nothing.
+use Prim.Native.Nat.{ℕ}
 use mathlib.Core.List.{List, [], _∷_}
-use lib.ListN.{getD, take, drop}
+use lib.ListN.{getD}
 use Rattle.put.specs.Put.{Wrote}
-use Rattle.layout.specs.Read.{readOf, answer}
+use Rattle.layout.specs.Read.{readOf, answer, restOf}
 use Rattle.layout.specs.Write.{writeOf, padded, slotted}
 use Rattle.layout.specs.declared.Field.{Field}
 use Rattle.layout.specs.declared.Field.the-variants.{Number, Reserved, Version, Flags}
@@ -27,9 +28,8 @@ to m = slotted (m .version ∷ m .flags ∷ m .«handler_type» ∷ [])
 abbrev pub hdlrOf : List ℕ → Found
 hdlrOf part = answer Is Refused from (readOf kind fields part)
 
--- the name: what lies behind the fields, up to the box's end (a box that is refused ends at 0)
 abbrev pub nameOf : List ℕ → List ℕ
-nameOf part = let f = readOf kind fields part in take (f .end - f .place) (drop (f .place) part)
+nameOf part = restOf (readOf kind fields part) part
 
 abbrev pub hdlrIn : Hdlr → List ℕ → List ℕ → Wrote
 hdlrIn m name out = writeOf kind fields (to m) name out

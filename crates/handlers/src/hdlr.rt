@@ -1,4 +1,5 @@
-// The handler of a track (ISO/IEC 14496-12, 8.4.3): four letters of any kind (A26), and a name, which is the rest of the box.
+// The handler of a track (ISO/IEC 14496-12, 8.4.3): four letters of any kind (A26), and a name, which is the rest of
+// the box.
 ghost use mathlib.Core.Path.{_≡_};
 ghost use Rattle.put.specs.Put.{wrote};
 ghost use Rattle.handlers.specs.Hdlr.{hdlrOf, nameOf, hdlrIn};

@@ -21,7 +21,8 @@ standard (f ∷ fs) b at v fl =
     let s = standard fs b (at + r .width) (versionAfter r x v) (flagsAfter r x fl) in
     when (r .kept) s (when (eqb x (r .fixed)) s false)
 
--- b is a box of this type as we write it: its size is its length, its fields are read, the reserved ones have their values, and n bytes follow them
+-- b is a box of this type as we write it: its size is its length, its fields are read, the reserved ones have their
+-- values, and n bytes follow them
 pub record Canonical (kind : ℕ) (fs : List Field) (n : ℕ) (b : List ℕ) : Type 0 where
   pub byte : (i : ℕ) → getD b i 0 < 256
   pub size : be 4 b 0 ≡ length b

@@ -1,9 +1,9 @@
 -- Reading a box that is a row of fields: each field first whole (1), then allowed (7, 8), at its own position.
 -- Assumes nothing.
-use Prim.Native.Nat.{ℕ, _+_}
+use Prim.Native.Nat.{ℕ, _+_, _-_}
 use mathlib.Core.List.{List, [], _∷_}
 use mathlib.Core.Bool.{Bool, true, false}
-use lib.ListN.{length, take, replicate}
+use lib.ListN.{length, take, drop, replicate}
 use lib.Seq.{sets}
 use lib.Dec.{eqb, ltb}
 use Rattle.numbers.specs.Number.{be}
@@ -63,3 +63,7 @@ readOf kind fs b = headed kind fs b (headerOf b 0 true)
 -- the value made of the slots, or the refusal
 abbrev pub answer : {M : Type 0} {R : Type 0} → (M → R) → (Refusal → R) → (List ℕ → M) → Fields → R
 answer is refused from f = when (eqb (f .number) 0) (is (from (f .values))) (refused (refusal (f .number) (f .place)))
+
+-- what lies behind the fields, up to the box's end; nothing of a box that is refused, since it ends at 0
+abbrev pub restOf : Fields → List ℕ → List ℕ
+restOf f b = take (f .end - f .place) (drop (f .place) b)

@@ -1,4 +1,5 @@
--- The media header (ISO/IEC 14496-12, 8.4.2). Times and duration are wider in version 1; a timescale of 0 is 8. Assumes nothing.
+-- The media header (ISO/IEC 14496-12, 8.4.2). Times and duration are wider in version 1; a timescale of 0 is 8.
+-- Assumes nothing.
 use Prim.Native.Nat.{ℕ}
 use mathlib.Core.List.{List, [], _∷_}
 use lib.ListN.{getD}

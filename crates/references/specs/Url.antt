@@ -1,9 +1,10 @@
--- Where the media data of a track lie (ISO/IEC 14496-12, 8.7.2): flag 1 says in the same file; the location is the rest of the box. Assumes nothing.
-use Prim.Native.Nat.{ℕ, _-_}
+-- Where the media data of a track lie (ISO/IEC 14496-12, 8.7.2): flag 1 says in the same file; the location is the
+-- rest of the box. Assumes nothing.
+use Prim.Native.Nat.{ℕ}
 use mathlib.Core.List.{List, [], _∷_}
-use lib.ListN.{getD, take, drop}
+use lib.ListN.{getD}
 use Rattle.put.specs.Put.{Wrote}
-use Rattle.layout.specs.Read.{readOf, answer}
+use Rattle.layout.specs.Read.{readOf, answer, restOf}
 use Rattle.layout.specs.Write.{writeOf, padded, slotted}
 use Rattle.layout.specs.declared.Field.{Field}
 use Rattle.layout.specs.declared.Field.the-variants.{Version, Flags}
@@ -27,9 +28,8 @@ to m = slotted (m .version ∷ m .flags ∷ [])
 abbrev pub urlOf : List ℕ → Found
 urlOf part = answer Is Refused from (readOf kind fields part)
 
--- the location: what lies behind the fields, up to the box's end (a box that is refused ends at 0)
 abbrev pub locationOf : List ℕ → List ℕ
-locationOf part = let f = readOf kind fields part in take (f .end - f .place) (drop (f .place) part)
+locationOf part = restOf (readOf kind fields part) part
 
 abbrev pub urlIn : Url → List ℕ → List ℕ → Wrote
 urlIn m location out = writeOf kind fields (to m) location out

@@ -1,4 +1,5 @@
-// Where the media data of a track lie (ISO/IEC 14496-12, 8.7.2): flag 1 says in the same file; the location is the rest of the box.
+// Where the media data of a track lie (ISO/IEC 14496-12, 8.7.2): flag 1 says in the same file; the location is the
+// rest of the box.
 ghost use mathlib.Core.Path.{_≡_};
 ghost use Rattle.put.specs.Put.{wrote};
 ghost use Rattle.references.specs.Url.{urlOf, locationOf, urlIn};

@@ -10,37 +10,33 @@ use Rattle.numbers.specs.Field.{when}
 use Rattle.numbers.specs.declared.Refusal.{Refusal}
 use Rattle.put.specs.Put.{wrote}
 use Rattle.put.specs.declared.Put.the-variants.{Done}
-use Rattle.layout.specs.Read.{readOf, answer, zeros}
+use Rattle.layout.specs.Read.{readOf, answer, restOf, zeros}
 use Rattle.layout.specs.Write.{writeOf}
 use Rattle.layout.specs.Canonical.{Canonical, slots, firsts}
 use Rattle.layout.specs.declared.Field.{Field}
 use Rattle.layout.specs.declared.read.Fields.{Fields}
 use Rattle.rounds.proofs.Boxes.{reads-back, own-read, own-bytes, fieldsIn, told-is}
 
--- what lies between the fields and the box's end
-abbrev pub rest : Fields → List ℕ → List ℕ
-rest f b = take (f .end - f .place) (drop (f .place) b)
-
-to-the-end : (f : Fields) (b : List ℕ) → f .end ≡ length b → rest f b ≡ drop (f .place) b
+to-the-end : (f : Fields) (b : List ℕ) → f .end ≡ length b → restOf f b ≡ drop (f .place) b
 to-the-end f b e = ap (λ n. take n (drop (f .place) b)) (ap (λ n. n - f .place) e ∙ sym (length-drop (f .place) b)) ∙ take-length (drop (f .place) b)
 
-pub no-rest : (f : Fields) (b : List ℕ) → f .end ≤ f .place → [] ≡ rest f b
+pub no-rest : (f : Fields) (b : List ℕ) → f .end ≤ f .place → [] ≡ restOf f b
 no-rest f b h = sym (ap (λ n. take n (drop (f .place) b)) (let z : f .end - f .place ≡ 0 = omega (arith, h) in z))
 
 module _ {M : Type 0} {R : Type 0} (is : M → R) (refused : Refusal → R) (from : List ℕ → M) (to : M → List ℕ) (kind : ℕ) (fs : List Field) where
   pub tail-back : kind < 4294967296 → ((m : M) → from (sets (zeros 24) 0 (firsts (slots fs) 0 (to m))) ≡ m) →
       (m : M) (tail buf : List ℕ) (n : ℕ) (out : List ℕ) → writeOf kind fs (to m) tail buf ≡ wrote (Done n) out →
-      (answer is refused from (readOf kind fs (take n out)) ≡ is m) × (rest (readOf kind fs (take n out)) (take n out) ≡ tail)
+      (answer is refused from (readOf kind fs (take n out)) ≡ is m) × (restOf (readOf kind fs (take n out)) (take n out) ≡ tail)
   tail-back hk ft m tail buf n out w =
       let p = reads-back kind fs (to m) tail buf n out hk w in
       let g = fieldsIn (length (take n out)) (p .0) (firsts (slots fs) 0 (to m)) in (
         sym (told-is is refused from g (readOf kind fs (take n out)) (sym (p .1)) refl) ∙ ap is (ft m),
-        ap (λ f. rest f (take n out)) (p .1) ∙ to-the-end g (take n out) refl ∙ p .2,
+        ap (λ f. restOf f (take n out)) (p .1) ∙ to-the-end g (take n out) refl ∙ p .2,
       )
 
   pub tail-own : ((a b : M) → is a ≡ is b → a ≡ b) → ((vs : List ℕ) → firsts (slots fs) 0 (to (from vs)) ≡ firsts (slots fs) 0 vs) → slots fs ≤ 24 →
       (b : List ℕ) (k : ℕ) → Canonical kind fs k b → (m : M) → answer is refused from (readOf kind fs b) ≡ is m → (buf : List ℕ) → length b ≤ length buf →
-      writeOf kind fs (to m) (rest (readOf kind fs b) b) buf ≡ wrote (Done (length b)) (b ++ drop (length b) buf)
+      writeOf kind fs (to m) (restOf (readOf kind fs b) b) buf ≡ wrote (Done (length b)) (b ++ drop (length b) buf)
   tail-own inj tf hs b k c m a buf hl =
       let o = own-read kind fs k b c in
       let f = readOf kind fs b in

@@ -1,4 +1,5 @@
--- Which chunk has how many samples (ISO/IEC 14496-12, 8.7.4): a count, and as many runs. First chunks begin at 1 and rise strictly, and no run has 0 samples in a chunk (A21). Assumes nothing.
+-- Which chunk has how many samples (ISO/IEC 14496-12, 8.7.4): a count, and as many runs. First chunks begin at 1 and
+-- rise strictly, and no run has 0 samples in a chunk (A21). Assumes nothing.
 use Prim.Native.Nat.{ℕ, _+_, _*_}
 use mathlib.Core.List.{List, [], _∷_}
 use lib.ListN.{getD}

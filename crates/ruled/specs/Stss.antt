@@ -1,4 +1,5 @@
--- The sync samples (ISO/IEC 14496-12, 8.6.2): a count, and as many sample numbers, from 1 on and strictly rising (A21). Assumes nothing.
+-- The sync samples (ISO/IEC 14496-12, 8.6.2): a count, and as many sample numbers, from 1 on and strictly rising
+-- (A21). Assumes nothing.
 use Prim.Native.Nat.{ℕ, _+_, _*_}
 use mathlib.Core.List.{List, [], _∷_}
 use lib.ListN.{getD}

@@ -1,4 +1,5 @@
-// Which chunk has how many samples (ISO/IEC 14496-12, 8.7.4): a count, and as many runs. First chunks begin at 1 and rise strictly, and no run has 0 samples in a chunk (A21).
+// Which chunk has how many samples (ISO/IEC 14496-12, 8.7.4): a count, and as many runs. First chunks begin at 1 and
+// rise strictly, and no run has 0 samples in a chunk (A21).
 ghost use mathlib.Core.Path.{_≡_};
 ghost use Rattle.put.specs.Put.{wrote};
 ghost use Rattle.ruled.specs.Stsc.{stscOf, stscIn, entryOf};

@@ -1,4 +1,5 @@
--- The sample sizes (ISO/IEC 14496-12, 8.7.3.2): a size that all samples have in common, or 0, a count, and where it is 0 as many sizes. Assumes nothing.
+-- The sample sizes (ISO/IEC 14496-12, 8.7.3.2): a size that all samples have in common, or 0, a count, and where it is
+-- 0 as many sizes. Assumes nothing.
 use Prim.Native.Nat.{ℕ, _+_, _*_}
 use mathlib.Core.List.{List, [], _∷_}
 use lib.ListN.{getD}

@@ -1,4 +1,5 @@
-// The sample sizes (ISO/IEC 14496-12, 8.7.3.2): a size that all samples have in common, or 0, a count, and where it is 0 as many sizes.
+// The sample sizes (ISO/IEC 14496-12, 8.7.3.2): a size that all samples have in common, or 0, a count, and where it is
+// 0 as many sizes.
 ghost use mathlib.Core.Path.{_≡_};
 ghost use Rattle.put.specs.Put.{wrote};
 ghost use Rattle.sizes.specs.Stsz.{listedOf, stszOf, stszIn, entryOf};

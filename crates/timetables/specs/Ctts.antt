@@ -1,4 +1,5 @@
--- The composition offsets (ISO/IEC 14496-12, 8.6.1.3): a count, and as many pairs of a count and an offset. The offset is signed in versions 0 and 1 alike, as the Rust has it and against the standard (document 01). Assumes nothing.
+-- The composition offsets (ISO/IEC 14496-12, 8.6.1.3): a count, and as many pairs of a count and an offset. The offset
+-- is signed in versions 0 and 1 alike, as the Rust has it and against the standard (document 01). Assumes nothing.
 use Prim.Native.Nat.{ℕ, _+_, _*_}
 use mathlib.Core.List.{List, [], _∷_}
 use lib.ListN.{getD}

@@ -1,4 +1,5 @@
--- The decoding times (ISO/IEC 14496-12, 8.6.1.2): a count, and as many pairs of a count and a delta. A count of 0 in a pair is allowed (A53). Assumes nothing.
+-- The decoding times (ISO/IEC 14496-12, 8.6.1.2): a count, and as many pairs of a count and a delta. A count of 0 in a
+-- pair is allowed (A53). Assumes nothing.
 use Prim.Native.Nat.{ℕ, _+_, _*_}
 use mathlib.Core.List.{List, [], _∷_}
 use lib.ListN.{getD}

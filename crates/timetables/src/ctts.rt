@@ -1,4 +1,5 @@
-// The composition offsets (ISO/IEC 14496-12, 8.6.1.3): a count, and as many pairs of a count and an offset. The offset is signed in versions 0 and 1 alike, as the Rust has it and against the standard (document 01).
+// The composition offsets (ISO/IEC 14496-12, 8.6.1.3): a count, and as many pairs of a count and an offset. The offset
+// is signed in versions 0 and 1 alike, as the Rust has it and against the standard (document 01).
 ghost use mathlib.Core.Path.{_≡_};
 ghost use Rattle.put.specs.Put.{wrote};
 ghost use Rattle.timetables.specs.Ctts.{cttsOf, cttsIn, entryOf};

@@ -1,4 +1,5 @@
-// The decoding times (ISO/IEC 14496-12, 8.6.1.2): a count, and as many pairs of a count and a delta. A count of 0 in a pair is allowed (A53).
+// The decoding times (ISO/IEC 14496-12, 8.6.1.2): a count, and as many pairs of a count and a delta. A count of 0 in a
+// pair is allowed (A53).
 ghost use mathlib.Core.Path.{_≡_};
 ghost use Rattle.put.specs.Put.{wrote};
 ghost use Rattle.timetables.specs.Stts.{sttsOf, sttsIn, entryOf};

@@ -1,4 +1,5 @@
--- The track header (ISO/IEC 14496-12, 8.3.2). 92 bytes in version 0 and 104 in version 1; a track number of 0 is 8. Assumes nothing.
+-- The track header (ISO/IEC 14496-12, 8.3.2). 92 bytes in version 0 and 104 in version 1; a track number of 0 is 8.
+-- Assumes nothing.
 use Prim.Native.Nat.{ℕ}
 use mathlib.Core.List.{List, [], _∷_}
 use lib.ListN.{getD}

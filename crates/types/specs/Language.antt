@@ -1,4 +1,5 @@
--- The language of a track (ISO/IEC 14496-12, 8.4.2.3): a pad bit, and three letters of 5 bits, each less 0x60. A65: what
+-- The language of a track (ISO/IEC 14496-12, 8.4.2.3): a pad bit, and three letters of 5 bits, each less 0x60. A65:
+-- what
 -- is read may be no letter; what 5 bits do not hold is not written (13). Assumes nothing.
 use Prim.Native.Nat.{ℕ, _+_, _-_, _*_, _/_, _%_}
 use lib.Dec.{ltb}

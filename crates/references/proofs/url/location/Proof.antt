@@ -1,7 +1,8 @@
 use mathlib.Core.Path.{ap, _∙_}
 use native.Mathlib.Omega.{arith}
 use Rattle.rounds.proofs.Boxes.{end-in}
-use Rattle.rounds.proofs.TailBoxes.{rest, no-rest}
+use Rattle.layout.specs.Read.{restOf}
+use Rattle.rounds.proofs.TailBoxes.{no-rest}
 use Rattle.references.specs.Url.{kind, fields}
 use borrow.Author.Needs.{needs}
 use Rattle.references.proofs.url.location.Statement.{statement}
@@ -14,7 +15,7 @@ slice-aggregate-result : tie.Need-slice-aggregate-result
 slice-aggregate-result c = search needs
 
 returns : tie.Need-returns
-returns c = no-rest (c .before .before .by .result) (c .before .before .before .before .args .part .now) (c .before .if1 .taken) ∙ ap (λ f. rest f (c .before .before .before .before .args .part .now)) (c .before .before .by .ensures)
+returns c = no-rest (c .before .before .by .result) (c .before .before .before .before .args .part .now) (c .before .if1 .taken) ∙ ap (λ f. restOf f (c .before .before .before .before .args .part .now)) (c .before .before .by .ensures)
 
 sub-result : tie.Need-sub-result
 sub-result c = search needs
@@ -26,7 +27,7 @@ part-result-end : tie.Need-part-result-end
 part-result-end c = omega (arith, end-in kind fields (c .before .before .before .args .part .now) _ (c .before .by .ensures))
 
 returns-2 : tie.Need-returns-2
-returns-2 c = ap (λ f. rest f (c .before .before .before .before .args .part .now)) (c .before .before .by .ensures)
+returns-2 c = ap (λ f. restOf f (c .before .before .before .before .args .part .now)) (c .before .before .by .ensures)
 
 pub location-spec : {M : Type 1} → statement M
 location-spec =
