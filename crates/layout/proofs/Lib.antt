@@ -1,4 +1,5 @@
 pub mod Cases
+pub mod Exact
 pub mod Tables
 pub mod Writes
 mod Unique
