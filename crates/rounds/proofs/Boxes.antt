@@ -78,7 +78,7 @@ opens kind fs b vs e h k s d =
     ap (headed kind fs b) (sym r) ∙ sym (is-eq _ _ _ kind kind refl (sym same))
 
 -- a box that was written
-placed-done : (kind : ℕ) (tail buf : List ℕ) (m : Made) (n : ℕ) (out : List ℕ) → placed kind tail buf m ≡ wrote (Done n) out →
+pub placed-done : (kind : ℕ) (tail buf : List ℕ) (m : Made) (n : ℕ) (out : List ℕ) → placed kind tail buf m ≡ wrote (Done n) out →
     (cs : List ℕ) × (m ≡ made cs) × (n ≡ length (full kind cs tail)) × (out ≡ full kind cs tail ++ drop (length (full kind cs tail)) buf) × (length (full kind cs tail) ≤ 4294967295)
 unfolding when
 placed-done kind tail buf bad n out e = let z : _≡_ {A = ℕ} 0 1 = cc in absurd (omega arith)
