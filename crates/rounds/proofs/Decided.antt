@@ -2,12 +2,11 @@
 use mathlib.Core.Path.{_≡_, refl, sym, ap, ap₂, _∙_, subst}
 use mathlib.Core.List.{List, [], _∷_, _++_, append-assoc}
 use mathlib.Core.Bool.{Bool, true, false}
-use Prim.Native.Nat.{ℕ, zero, suc, _+_, _/_, _%_, _^_, _≤_, _<_}
-use native.Mathlib.Nat.{mod-eq-of-lt, mod-lt}
+use Prim.Native.Nat.{ℕ, _+_, _≤_, _<_}
+use native.Mathlib.Nat.{mod-eq-of-lt}
 use native.Mathlib.Omega.{arith}
-use lib.ListN.{length, getD, take, drop, length-append}
-use lib.Seq.{take-at}
-use lib.Dec.{ltb, leb, eqb}
+use lib.ListN.{length, getD, take, length-append}
+use lib.Dec.{ltb, eqb}
 use borrow.Author.Tests.{le-ltb, leb-true, eqb-true, eq-eqb}
 use Rattle.numbers.specs.Number.{be, bytes}
 use Rattle.numbers.specs.Field.{when, field, fits}
@@ -17,15 +16,14 @@ use Rattle.put.specs.Put.{wrote}
 use Rattle.put.specs.declared.Put.the-variants.{Done}
 use Rattle.layout.specs.Rule.{ruleOf}
 use Rattle.layout.specs.Read.{Got, got, fault, decode}
-use Rattle.layout.specs.Write.{made, encode, full, writeOf}
+use Rattle.layout.specs.Write.{made, encode, writeOf}
 use Rattle.layout.specs.Canonical.{standard, followed, exact, canonicalOf, ours, Canonical}
 use Rattle.layout.specs.declared.Field.{Field}
 use Rattle.layout.specs.declared.rule.Rule.{Rule}
 use Rattle.layout.proofs.Cases.{range}
 use Rattle.layout.proofs.Exact.{exact-step}
-use Rattle.layout.proofs.Writes.{length-full}
 use Rattle.rounds.proofs.Round.{lay-made}
-use Rattle.rounds.proofs.Boxes.{placed-done}
+use Rattle.rounds.proofs.Boxes.{joined, are-bytes, written-box}
 
 both : (t x : Bool) → when t x false ≡ true → (t ≡ true) × (x ≡ true)
 unfolding when
@@ -65,15 +63,18 @@ module _ (kind : ℕ) (fs : List Field) (n : ℕ) (b : List ℕ) where
         rest = g .3;
       }
 
+  pub yes-canonical : 8 ≤ length b → be 4 b 0 ≡ length b → be 4 b 4 ≡ kind → true ≡ exact fs n b 8 0 0 → canonicalOf kind fs n b ≡ true
+  yes-canonical long size type f =
+      sym (whole 4 b 0 (λ q. false) _ true (be 4 b 0) (omega (arith, long)) refl
+      (is-eq _ _ _ (be 4 b 0) (length b) size
+      (whole 4 b 4 (λ q. false) _ true (be 4 b 4) long refl
+      (is-eq _ _ _ (be 4 b 4) kind type f))))
+
   pub told-canonical : Canonical kind fs n b → canonicalOf kind fs n b ≡ true
   unfolding exact
   told-canonical c =
-      let f : true ≡ exact fs n b 8 0 0 =
-      by-true _ _ _ (standard fs b 8 0 0) (c .reserved) (sym (ap (followed n b) (c .fields) ∙ eq-eqb (c .end + n) (length b) (c .rest))) in
-      sym (whole 4 b 0 (λ q. false) _ true (be 4 b 0) (omega (arith, c .long)) refl
-      (is-eq _ _ _ (be 4 b 0) (length b) (c .size)
-      (whole 4 b 4 (λ q. false) _ true (be 4 b 4) (c .long) refl
-      (is-eq _ _ _ (be 4 b 4) kind (c .type) f))))
+      yes-canonical (c .long) (c .size) (c .type)
+      (by-true _ _ _ (standard fs b 8 0 0) (c .reserved) (sym (ap (followed n b) (c .fields) ∙ eq-eqb (c .end + n) (length b) (c .rest))))
 
 -- a value that is written is the field's own
 own-value : (r : Rule) (xs : List ℕ) (k x : ℕ) → x ≡ when (r .kept) (getD xs k 0) (r .fixed) → r .low ≤ x → x ≤ r .high → ours r x ≡ true
@@ -113,18 +114,6 @@ exact-back (f ∷ fs) xs k v fl bs e pre rest =
     ∙ ap (λ x. when (ltb (length b) (length pre + r .width)) false (when (ours r x) (exact fs (length rest) b (length pre + r .width) (when (r .version) x v) (when (r .flags) x fl)) false)) y
     ∙ simp (le-ltb (length b) (length pre + r .width) w, own-value r xs k x refl (i .0) (i .1), on)
 
--- what is written is bytes, where the tail is
-joined : (a b : List ℕ) → Bytes a → Bytes b → Bytes (a ++ b)
-joined [] b h g i = g i
-joined (x ∷ a) b h g zero = h zero
-joined (x ∷ a) b h g (suc i) = joined a b (λ j. h (suc j)) g i
-
-are-bytes : (w n : ℕ) → Bytes (bytes w n)
-unfolding bytes
-are-bytes zero n i = omega arith
-are-bytes (suc w) n zero = mod-lt (n / 256 ^ w) (omega arith)
-are-bytes (suc w) n (suc i) = are-bytes w n i
-
 laid-bytes : (fs : List Field) (xs : List ℕ) (k v fl : ℕ) (bs : List ℕ) → encode fs xs k v fl ≡ made bs → Bytes bs
 unfolding encode
 laid-bytes [] xs k v fl bs e = let q : [] ≡ bs = cc in subst Bytes q (λ i. omega arith)
@@ -139,33 +128,14 @@ module _ (kind : ℕ) (fs : List Field) (xs tail buf : List ℕ) (k : ℕ) (out 
   -- WHATEVER IS WRITTEN IS CANONICAL
   pub writes-canonical : canonicalOf kind fs (length tail) (take k out) ≡ true
   writes-canonical =
-      let p = placed-done kind tail buf (encode fs xs 0 0 0) k out w in
-      let cs = p .0 in
-      let size = 8 + length cs + length tail in
-      let a = full kind cs tail in
-      let pre = bytes 4 size ++ bytes 4 kind in
-      let l4 : length (bytes 4 size) ≡ 4 = length-bytes 4 size in
-      let l8 : length pre ≡ 8 = length-append (bytes 4 size) (bytes 4 kind) ∙ ap₂ (λ (m n : ℕ). m + n) l4 (length-bytes 4 kind) in
-      let la : length a ≡ size = length-full kind cs tail in
-      let t : take k out ≡ a = ap₂ (λ (n : ℕ) (o : List ℕ). take n o) (p .2) (p .3) ∙ take-at a (drop (length a) buf) (length a) refl in
-      let s1 : a ≡ pre ++ (cs ++ tail) = simp append-assoc in
-      let s2 : a ≡ bytes 4 size ++ (bytes 4 kind ++ (cs ++ tail)) = simp append-assoc in
-      let ty : be 4 a 4 ≡ kind = ap₂ (λ (b : List ℕ) (n : ℕ). be 4 b n) s2 (sym l4) ∙ be-bytes 4 kind (bytes 4 size) (cs ++ tail) ∙ mod-eq-of-lt hk in
-      let z : be 4 a 0 ≡ size = ap (λ b. be 4 b 0) s2 ∙ be-bytes 4 size [] (bytes 4 kind ++ (cs ++ tail)) ∙ mod-eq-of-lt (omega (arith, p .4)) in
-      let f : exact fs (length tail) a 8 0 0 ≡ true =
-      ap₂ (λ (b : List ℕ) (n : ℕ). exact fs (length tail) b n 0 0) s1 (sym l8) ∙ exact-back fs xs 0 0 0 cs (p .1) pre tail in
-      ap (canonicalOf kind fs (length tail)) t
-      ∙ sym (whole 4 a 0 (λ q. false) _ true (be 4 a 0) (omega arith) refl
-      (is-eq _ _ _ (be 4 a 0) (length a) (z ∙ sym la)
-      (whole 4 a 4 (λ q. false) _ true (be 4 a 4) (omega arith) refl
-      (is-eq _ _ _ (be 4 a 4) kind ty (sym f)))))
+      let b = take k out in
+      let r = written-box kind fs xs tail buf k out hk w in
+      let f : exact fs (length tail) b 8 0 0 ≡ true =
+      ap₂ (λ (b : List ℕ) (n : ℕ). exact fs (length tail) b n 0 0) (r .shape) (sym (r .eight)) ∙ exact-back fs xs 0 0 0 (r .fields) (r .coded) (r .head) tail in
+      yes-canonical kind fs (length tail) b (omega (arith, r .long)) (r .size) (r .type) (sym f)
 
   pub written-canonical : Bytes tail → Canonical kind fs (length tail) (take k out)
-  written-canonical ht =
-      let p = placed-done kind tail buf (encode fs xs 0 0 0) k out w in
-      let cs = p .0 in
-      let a = full kind cs tail in
-      let t : take k out ≡ a = ap₂ (λ (n : ℕ) (o : List ℕ). take n o) (p .2) (p .3) ∙ take-at a (drop (length a) buf) (length a) refl in
-      let head = bytes 4 (8 + length cs + length tail) in
-      let h = joined (head ++ bytes 4 kind ++ cs) tail (joined (head ++ bytes 4 kind) cs (joined head (bytes 4 kind) (are-bytes 4 (8 + length cs + length tail)) (are-bytes 4 kind)) (laid-bytes fs xs 0 0 0 cs (p .1))) ht in
-      decided kind fs (length tail) (take k out) writes-canonical (subst Bytes (sym t) h)
+  written-canonical h =
+      let r = written-box kind fs xs tail buf k out hk w in
+      decided kind fs (length tail) (take k out) writes-canonical
+      (subst Bytes (sym (r .shape)) (joined (r .head) (r .fields ++ tail) (r .byte) (joined (r .fields) tail (laid-bytes fs xs 0 0 0 (r .fields) (r .coded)) h)))
