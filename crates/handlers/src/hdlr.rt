@@ -18,9 +18,9 @@ pub enum Found {
     Refused(Refusal),
 }
 
-const KIND: u32 = 0x68646c72;
+pub const KIND: u32 = 0x68646c72;
 
-const ROW: [Field; 24] = [
+pub const ROW: [Field; 24] = [
     Field::Version(0, 0),
     Field::Flags,
     Field::Reserved(4, 0),

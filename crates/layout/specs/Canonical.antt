@@ -22,6 +22,10 @@ standard (f ∷ fs) b at v fl =
     let s = standard fs b (at + r .width) (versionAfter r x v) (flagsAfter r x fl) in
     when (r .kept) s (when (eqb x (r .fixed)) s false)
 
+-- what we write in one field: its range, and its own value where it has one
+abbrev pub ours : Rule → ℕ → Bool
+ours r x = when (ltb x (r .low)) false (when (ltb (r .high) x) false (when (r .kept) true (eqb x (r .fixed))))
+
 -- n bytes follow the fields
 abbrev pub followed : ℕ → List ℕ → Got → Bool
 followed n b (got xs e) = eqb (e + n) (length b)
@@ -37,12 +41,8 @@ canonicalOf kind fs n b =
     field (λ q. false) 4 b 0 (λ size. when (eqb size (length b))
     (field (λ q. false) 4 b 4 (λ type. when (eqb type kind) (exact fs n b 8 0 0) false)) false)
 
--- what is asked of one field: its range, and its own value where it has one
-abbrev pub ours : Rule → ℕ → Bool
-ours r x = when (ltb x (r .low)) false (when (ltb (r .high) x) false (when (r .kept) true (eqb x (r .fixed))))
-
--- the same as a statement: b is a box of this type as we write it: its size is its length, its fields are read, the reserved ones have their
--- values, and n bytes follow them
+-- the same as a statement, of bytes: the size is the length, the fields are read, the reserved ones have their values,
+-- and n bytes follow them
 pub record Canonical (kind : ℕ) (fs : List Field) (n : ℕ) (b : List ℕ) : Type 0 where
   pub byte : (i : ℕ) → getD b i 0 < 256
   pub size : be 4 b 0 ≡ length b

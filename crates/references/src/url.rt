@@ -17,9 +17,9 @@ pub enum Found {
     Refused(Refusal),
 }
 
-const KIND: u32 = 0x75726c20;
+pub const KIND: u32 = 0x75726c20;
 
-const ROW: [Field; 24] = [
+pub const ROW: [Field; 24] = [
     Field::Version(0, 0),
     Field::Flags,
     Field::Nothing,

@@ -1,6 +1,4 @@
-use mathlib.Core.Path.{refl, sym, _∙_}
-use Prim.Native.Nat.{_≤_}
-use native.Mathlib.Omega.{arith}
+use mathlib.Core.Path.{refl}
 use borrow.Author.Needs.{needs}
 use Rattle.numbers.proofs.Chain.{by32, there, has, has-not, is-eq, is-ne}
 use Rattle.layout.proofs.canonical.by.Statement.{statement}
