@@ -69,13 +69,7 @@ pub fn read(part: &[u8]) -> Found
 pub fn name(part: &[u8]) -> &[u8]
     ensures { λ r. ⌜ now r ≡ nameOf (now (part .entry)) ⌝ }
 {
-    let got = layout::read::by(part, KIND, ROW);
-    let place = got.place;
-    let end = got.end;
-    if end <= place {
-        return &part[..0];
-    }
-    &part[place..end]
+    layout::read::rest(part, KIND, ROW)
 }
 
 pub fn write(hdlr: Hdlr, name: &[u8], out: &mut [u8]) -> Put

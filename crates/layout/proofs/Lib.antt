@@ -1,4 +1,5 @@
 pub mod Cases
+pub mod Rests
 pub mod Tables
 pub mod Writes
 mod Unique

@@ -9,7 +9,7 @@ use Rattle.numbers.specs.Field.{refusal, field, when}
 use Rattle.put.specs.Put.{wrote}
 use Rattle.put.specs.declared.Put.the-variants as put
 use Rattle.layout.specs.Rule.{ruleOf}
-use Rattle.layout.specs.Read.{one, decode, readOf, faultyOf}
+use Rattle.layout.specs.Read.{one, decode, readOf, restOf, faultyOf}
 use Rattle.layout.specs.Write.{lay, encode, writeOf, padded, slotted}
 use Rattle.layout.specs.Canonical.{standard, slots, most, limit}
 use Rattle.layout.specs.Table.{cutOf}
@@ -60,6 +60,23 @@ write-unset = refl
 write-tail : writeOf kind (padded (Number 1 ∷ [])) (slotted (5 ∷ [])) (bytes 2 258) (replicate 11 9) ≡ wrote (put.Done 11) (box (bytes 1 5 ++ bytes 2 258))
 unfolding bytes when ruleOf lay encode
 write-tail = refl
+
+-- what lies behind the fields ends where the box does, also where the bytes go on
+abbrev tailed : List ℕ
+tailed = box (bytes 1 5 ++ bytes 2 258) ++ bytes 1 9
+
+read-rest : restOf (readOf kind (padded (Number 1 ∷ [])) tailed) tailed ≡ 1 ∷ 2 ∷ []
+unfolding be bytes field when ruleOf one decode
+read-rest = refl
+
+-- there may be nothing, and there is nothing in a box that is refused
+empty-rest : restOf (readOf kind (padded (Number 3 ∷ [])) tailed) tailed ≡ []
+unfolding be bytes field when ruleOf one decode
+empty-rest = refl
+
+refused-rest : restOf (readOf kind (padded (Number 4 ∷ [])) tailed) tailed ≡ []
+unfolding be bytes field when ruleOf one decode
+refused-rest = refl
 
 -- the first fault, field by field: 7 for the version, 8 for a value, 1 for what is cut; another type is 8 at 4
 bad-version : readOf kind row (box (bytes 1 2)) ≡ faultyOf 7 8

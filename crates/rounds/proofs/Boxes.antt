@@ -6,7 +6,7 @@ use mathlib.Core.Bool.{Bool, true, false}
 use Prim.Native.Nat.{ℕ, zero, suc, _+_, _*_, _-_, _/_, _%_, _^_, _≤_, _<_, min, max}
 use native.Mathlib.Nat.{add-zero, zero-add, mod-eq-of-lt}
 use native.Mathlib.Omega.{arith}
-use lib.ListN.{length, length-take, getD, drop, take, set, length-append, length-set, length-replicate, take-append-drop}
+use lib.ListN.{length, getD, drop, take, set, length-append, length-set, length-replicate, take-append-drop}
 use lib.Seq.{length-take-le, take-at, drop-at, take-length, drop-length, sets, length-sets, getD-set-same, getD-set-other, set-out}
 use lib.Dec.{ltb, leb, eqb}
 use borrow.Author.Tests.{lt-ltb, le-ltb, ltb-true, ltb-false, eqb-true, eqb-false, eq-eqb, ne-eqb}
@@ -28,6 +28,7 @@ use Rattle.layout.specs.declared.Field.{Field}
 use Rattle.layout.specs.declared.Field.the-variants.{Number, Reserved, Wide, Optional, Least, Version, Flags, Nothing}
 use Rattle.layout.specs.declared.rule.Rule.{Rule}
 use Rattle.layout.specs.declared.read.Fields.{Fields}
+use Rattle.layout.proofs.Rests.{either}
 use Rattle.layout.proofs.Writes.{length-full}
 use Rattle.rounds.proofs.Round.{grown, back, forth, kept-same, one-got, keep-got}
 
@@ -232,11 +233,6 @@ fields-fit end fs b at v fl (got vs e) d k =
     stored-fits vs (zeros 24) 0 (limit fs) (λ k. omega (arith, zero-at 24 k)) (λ k. omega (arith, got-fits fs b at v fl vs e d k, ap (limit fs) (zero-add k))) k
 fields-fit end fs b at v fl (fault n p) d k = omega (arith, zero-at 24 k)
 
-either : (P : Fields → Type 0) (t : Bool) (x y : Fields) → P x → P y → P (when t x y)
-unfolding when
-either P true x y p q = p
-either P false x y p q = q
-
 -- what slot k of a reader's record holds is at most its field's greatest value
 pub fits : (kind : ℕ) (fs : List Field) (b : List ℕ) (k m : ℕ) (r : Fields) → r ≡ readOf kind fs b → limit fs k ≡ m → getD (r .values) k 0 ≤ m
 fits kind fs b k m r e l = omega (arith, ap (λ r. getD (r .values) k 0) e, all)
@@ -256,21 +252,6 @@ fits kind fs b k m r e l = omega (arith, ap (λ r. getD (r .values) k 0) e, all)
 
     all : P (readOf kind fs b)
     all = by (headerOf b 0 true)
-
--- a box that is read ends in the part that is lent
-pub end-in : (kind : ℕ) (fs : List Field) (b : List ℕ) (r : Fields) → r ≡ readOf kind fs b → r .end ≤ length b
-end-in kind fs b r e = omega (arith, ap (λ r. r .end) e, by (headerOf b 0 true))
-  where
-    P : Fields → Type 0
-    P r = r .end ≤ length b
-
-    got-end : (s : List ℕ) (g : Got) → length s ≤ length b → P (fieldsOf (length s) (zeros 24) 0 g)
-    got-end s (got vs p) h = h
-    got-end s (fault n p) h = omega arith
-
-    by : (h : Found) → P (headed kind fs b h)
-    by (found.Is h) = either P _ _ _ (got-end (take (h .size) b) (decode fs (take (h .size) b) (h .length) 0 0) (omega (arith, length-take (h .size) b))) (let z : 0 ≤ length b = omega arith in z)
-    by (found.Refused q) = let z : 0 ≤ length b = omega arith in z
 
 -- A BOX'S VALUE AS A RECORD: `to` lays it in slots, `from` takes it out of them
 module _ {M : Type 0} {R : Type 0} (is : M → R) (refused : Refusal → R) (from : List ℕ → M) where
