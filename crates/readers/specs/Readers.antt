@@ -22,9 +22,15 @@ use Rattle.movie.specs.declared.mdhd.Found.the-variants as mdhd
 use Rattle.handlers.specs.Hdlr.{hdlrOf}
 use Rattle.handlers.specs.declared.hdlr.Found as hdlr-found
 use Rattle.handlers.specs.declared.hdlr.Found.the-variants as hdlr
+use Rattle.references.specs.Dref.{drefOf}
+use Rattle.references.specs.declared.dref.Found as dref-found
+use Rattle.references.specs.declared.dref.Found.the-variants as dref
 use Rattle.references.specs.Url.{urlOf}
 use Rattle.references.specs.declared.url.Found as url-found
 use Rattle.references.specs.declared.url.Found.the-variants as url
+use Rattle.descriptions.specs.Stsd.{stsdOf}
+use Rattle.descriptions.specs.declared.stsd.Found as stsd-found
+use Rattle.descriptions.specs.declared.stsd.Found.the-variants as stsd
 use Rattle.timetables.specs.Stts.{sttsOf}
 use Rattle.timetables.specs.declared.stts.Found as stts-found
 use Rattle.timetables.specs.declared.stts.Found.the-variants as stts
@@ -77,9 +83,17 @@ abbrev pub hdlrFault : hdlr-found.Found → Judged
 hdlrFault (hdlr.Is m) = Fine
 hdlrFault (hdlr.Refused q) = Wrong q
 
+abbrev pub drefFault : dref-found.Found → Judged
+drefFault (dref.Is m) = Fine
+drefFault (dref.Refused q) = Wrong q
+
 abbrev pub urlFault : url-found.Found → Judged
 urlFault (url.Is m) = Fine
 urlFault (url.Refused q) = Wrong q
+
+abbrev pub stsdFault : stsd-found.Found → Judged
+stsdFault (stsd.Is m) = Fine
+stsdFault (stsd.Refused q) = Wrong q
 
 abbrev pub sttsFault : stts-found.Found → Judged
 sttsFault (stts.Is m at) = Fine
@@ -136,7 +150,9 @@ readers =
     reader kinds.elst (λ part. elstFault (elstOf part)) ∷
     reader kinds.mdhd (λ part. mdhdFault (mdhdOf part)) ∷
     reader kinds.hdlr (λ part. hdlrFault (hdlrOf part)) ∷
+    reader kinds.dref (λ part. drefFault (drefOf part)) ∷
     reader kinds.url (λ part. urlFault (urlOf part)) ∷
+    reader kinds.stsd (λ part. stsdFault (stsdOf part)) ∷
     reader kinds.stts (λ part. sttsFault (sttsOf part)) ∷
     reader kinds.ctts (λ part. cttsFault (cttsOf part)) ∷
     reader kinds.stsc (λ part. stscFault (stscOf part)) ∷
