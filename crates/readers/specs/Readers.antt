@@ -61,6 +61,9 @@ use Rattle.fragments.specs.declared.tfhd.Found.the-variants as tfhd
 use Rattle.fragments.specs.Tfdt.{tfdtOf}
 use Rattle.fragments.specs.declared.tfdt.Found as tfdt-found
 use Rattle.fragments.specs.declared.tfdt.Found.the-variants as tfdt
+use Rattle.runs.specs.Trun.{trunOf}
+use Rattle.runs.specs.declared.trun.Found as trun-found
+use Rattle.runs.specs.declared.trun.Found.the-variants as trun
 
 -- what each reader's answer refuses
 abbrev pub trexFault : trex-found.Found → Judged
@@ -135,6 +138,10 @@ abbrev pub tfdtFault : tfdt-found.Found → Judged
 tfdtFault (tfdt.Is m) = Fine
 tfdtFault (tfdt.Refused q) = Wrong q
 
+abbrev pub trunFault : trun-found.Found → Judged
+trunFault (trun.Is m at) = Fine
+trunFault (trun.Refused q) = Wrong q
+
 -- a type, and what its reader refuses of a part
 pub record Reader : Type 0 where
   pub kind : ℕ
@@ -163,6 +170,7 @@ readers =
     reader kinds.mfhd (λ part. mfhdFault (mfhdOf part)) ∷
     reader kinds.tfhd (λ part. tfhdFault (tfhdOf part)) ∷
     reader kinds.tfdt (λ part. tfdtFault (tfdtOf part)) ∷
+    reader kinds.trun (λ part. trunFault (trunOf part)) ∷
     []
 
 -- the reader of a type, asked

@@ -18,7 +18,8 @@ ghost use Rattle.chunks.specs.Co64.{co64Of};
 ghost use Rattle.fragments.specs.Mfhd.{mfhdOf};
 ghost use Rattle.fragments.specs.Tfhd.{tfhdOf};
 ghost use Rattle.fragments.specs.Tfdt.{tfdtOf};
-ghost use Rattle.readers.specs.Readers.{faultOf, trexFault, tkhdFault, elstFault, mdhdFault, hdlrFault, drefFault, urlFault, stsdFault, sttsFault, cttsFault, stscFault, stszFault, stcoFault, co64Fault, stssFault, mfhdFault, tfhdFault, tfdtFault};
+ghost use Rattle.runs.specs.Trun.{trunOf};
+ghost use Rattle.readers.specs.Readers.{faultOf, trexFault, tkhdFault, elstFault, mdhdFault, hdlrFault, drefFault, urlFault, stsdFault, sttsFault, cttsFault, stscFault, stszFault, stcoFault, co64Fault, stssFault, mfhdFault, tfhdFault, tfdtFault, trunFault};
 use places::kinds;
 use rows::Judged;
 
@@ -184,6 +185,15 @@ fn tfdt(part: &[u8]) -> Judged
     }
 }
 
+fn trun(part: &[u8]) -> Judged
+    ensures { λ r. ⌜ r ≡ trunFault (trunOf (now (part .entry))) ⌝ }
+{
+    match runs::trun::read(part) {
+        runs::trun::Found::Is(_, _) => Judged::Fine,
+        runs::trun::Found::Refused(q) => Judged::Wrong(q),
+    }
+}
+
 // The refusal of the reader of this type, its positions from the part's start on.
 pub fn fault(kind: u32, part: &[u8]) -> Judged
     ensures { λ r. ⌜ r ≡ faultOf kind (now (part .entry)) ⌝ }
@@ -241,6 +251,9 @@ pub fn fault(kind: u32, part: &[u8]) -> Judged
     }
     if kind == kinds::TFDT {
         return tfdt(part);
+    }
+    if kind == kinds::TRUN {
+        return trun(part);
     }
     Judged::Fine
 }

@@ -130,9 +130,16 @@ returns-18 : tie.Need-returns-18
 unfolding readers
 returns-18 c = further _ _ _ _ _ (c .before .before .before .before .before .before .before .before .before .before .before .before .before .before .before .before .before .before .if1 .left) (further _ _ _ _ _ (c .before .before .before .before .before .before .before .before .before .before .before .before .before .before .before .before .before .if2 .left) (further _ _ _ _ _ (c .before .before .before .before .before .before .before .before .before .before .before .before .before .before .before .before .if3 .left) (further _ _ _ _ _ (c .before .before .before .before .before .before .before .before .before .before .before .before .before .before .before .if4 .left) (further _ _ _ _ _ (c .before .before .before .before .before .before .before .before .before .before .before .before .before .before .if5 .left) (further _ _ _ _ _ (c .before .before .before .before .before .before .before .before .before .before .before .before .before .if6 .left) (further _ _ _ _ _ (c .before .before .before .before .before .before .before .before .before .before .before .before .if7 .left) (further _ _ _ _ _ (c .before .before .before .before .before .before .before .before .before .before .before .if8 .left) (further _ _ _ _ _ (c .before .before .before .before .before .before .before .before .before .before .if9 .left) (further _ _ _ _ _ (c .before .before .before .before .before .before .before .before .before .if10 .left) (further _ _ _ _ _ (c .before .before .before .before .before .before .before .before .if11 .left) (further _ _ _ _ _ (c .before .before .before .before .before .before .before .if12 .left) (further _ _ _ _ _ (c .before .before .before .before .before .before .if13 .left) (further _ _ _ _ _ (c .before .before .before .before .before .if14 .left) (further _ _ _ _ _ (c .before .before .before .before .if15 .left) (further _ _ _ _ _ (c .before .before .before .if16 .left) (further _ _ _ _ _ (c .before .before .if17 .left) (here _ _ _ _ _ (c .before .if18 .taken) (c .tfdt .ensures))))))))))))))))))
 
+trun-requires : tie.Need-trun-requires
+trun-requires c κs = search needs
+
 returns-19 : tie.Need-returns-19
 unfolding readers
-returns-19 c = further _ _ _ _ _ (c .before .before .before .before .before .before .before .before .before .before .before .before .before .before .before .before .before .if1 .left) (further _ _ _ _ _ (c .before .before .before .before .before .before .before .before .before .before .before .before .before .before .before .before .if2 .left) (further _ _ _ _ _ (c .before .before .before .before .before .before .before .before .before .before .before .before .before .before .before .if3 .left) (further _ _ _ _ _ (c .before .before .before .before .before .before .before .before .before .before .before .before .before .before .if4 .left) (further _ _ _ _ _ (c .before .before .before .before .before .before .before .before .before .before .before .before .before .if5 .left) (further _ _ _ _ _ (c .before .before .before .before .before .before .before .before .before .before .before .before .if6 .left) (further _ _ _ _ _ (c .before .before .before .before .before .before .before .before .before .before .before .if7 .left) (further _ _ _ _ _ (c .before .before .before .before .before .before .before .before .before .before .if8 .left) (further _ _ _ _ _ (c .before .before .before .before .before .before .before .before .before .if9 .left) (further _ _ _ _ _ (c .before .before .before .before .before .before .before .before .if10 .left) (further _ _ _ _ _ (c .before .before .before .before .before .before .before .if11 .left) (further _ _ _ _ _ (c .before .before .before .before .before .before .if12 .left) (further _ _ _ _ _ (c .before .before .before .before .before .if13 .left) (further _ _ _ _ _ (c .before .before .before .before .if14 .left) (further _ _ _ _ _ (c .before .before .before .if15 .left) (further _ _ _ _ _ (c .before .before .if16 .left) (further _ _ _ _ _ (c .before .if17 .left) (further _ _ _ _ _ (c .if18 .left) (unread _ _))))))))))))))))))
+returns-19 c = further _ _ _ _ _ (c .before .before .before .before .before .before .before .before .before .before .before .before .before .before .before .before .before .before .before .if1 .left) (further _ _ _ _ _ (c .before .before .before .before .before .before .before .before .before .before .before .before .before .before .before .before .before .before .if2 .left) (further _ _ _ _ _ (c .before .before .before .before .before .before .before .before .before .before .before .before .before .before .before .before .before .if3 .left) (further _ _ _ _ _ (c .before .before .before .before .before .before .before .before .before .before .before .before .before .before .before .before .if4 .left) (further _ _ _ _ _ (c .before .before .before .before .before .before .before .before .before .before .before .before .before .before .before .if5 .left) (further _ _ _ _ _ (c .before .before .before .before .before .before .before .before .before .before .before .before .before .before .if6 .left) (further _ _ _ _ _ (c .before .before .before .before .before .before .before .before .before .before .before .before .before .if7 .left) (further _ _ _ _ _ (c .before .before .before .before .before .before .before .before .before .before .before .before .if8 .left) (further _ _ _ _ _ (c .before .before .before .before .before .before .before .before .before .before .before .if9 .left) (further _ _ _ _ _ (c .before .before .before .before .before .before .before .before .before .before .if10 .left) (further _ _ _ _ _ (c .before .before .before .before .before .before .before .before .before .if11 .left) (further _ _ _ _ _ (c .before .before .before .before .before .before .before .before .if12 .left) (further _ _ _ _ _ (c .before .before .before .before .before .before .before .if13 .left) (further _ _ _ _ _ (c .before .before .before .before .before .before .if14 .left) (further _ _ _ _ _ (c .before .before .before .before .before .if15 .left) (further _ _ _ _ _ (c .before .before .before .before .if16 .left) (further _ _ _ _ _ (c .before .before .before .if17 .left) (further _ _ _ _ _ (c .before .before .if18 .left) (here _ _ _ _ _ (c .before .if19 .taken) (c .trun .ensures)))))))))))))))))))
+
+returns-20 : tie.Need-returns-20
+unfolding readers
+returns-20 c = further _ _ _ _ _ (c .before .before .before .before .before .before .before .before .before .before .before .before .before .before .before .before .before .before .if1 .left) (further _ _ _ _ _ (c .before .before .before .before .before .before .before .before .before .before .before .before .before .before .before .before .before .if2 .left) (further _ _ _ _ _ (c .before .before .before .before .before .before .before .before .before .before .before .before .before .before .before .before .if3 .left) (further _ _ _ _ _ (c .before .before .before .before .before .before .before .before .before .before .before .before .before .before .before .if4 .left) (further _ _ _ _ _ (c .before .before .before .before .before .before .before .before .before .before .before .before .before .before .if5 .left) (further _ _ _ _ _ (c .before .before .before .before .before .before .before .before .before .before .before .before .before .if6 .left) (further _ _ _ _ _ (c .before .before .before .before .before .before .before .before .before .before .before .before .if7 .left) (further _ _ _ _ _ (c .before .before .before .before .before .before .before .before .before .before .before .if8 .left) (further _ _ _ _ _ (c .before .before .before .before .before .before .before .before .before .before .if9 .left) (further _ _ _ _ _ (c .before .before .before .before .before .before .before .before .before .if10 .left) (further _ _ _ _ _ (c .before .before .before .before .before .before .before .before .if11 .left) (further _ _ _ _ _ (c .before .before .before .before .before .before .before .if12 .left) (further _ _ _ _ _ (c .before .before .before .before .before .before .if13 .left) (further _ _ _ _ _ (c .before .before .before .before .before .if14 .left) (further _ _ _ _ _ (c .before .before .before .before .if15 .left) (further _ _ _ _ _ (c .before .before .before .if16 .left) (further _ _ _ _ _ (c .before .before .if17 .left) (further _ _ _ _ _ (c .before .if18 .left) (further _ _ _ _ _ (c .if19 .left) (unread _ _)))))))))))))))))))
 
 pub fault-spec : {M : Type 1} → statement M
 fault-spec =
@@ -174,4 +181,6 @@ fault-spec =
     returns-17
     tfdt-requires
     returns-18
-    returns-19)
+    trun-requires
+    returns-19
+    returns-20)
