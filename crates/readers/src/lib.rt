@@ -19,7 +19,10 @@ ghost use Rattle.fragments.specs.Mfhd.{mfhdOf};
 ghost use Rattle.fragments.specs.Tfhd.{tfhdOf};
 ghost use Rattle.fragments.specs.Tfdt.{tfdtOf};
 ghost use Rattle.runs.specs.Trun.{trunOf};
-ghost use Rattle.readers.specs.Readers.{faultOf, trexFault, tkhdFault, elstFault, mdhdFault, hdlrFault, drefFault, urlFault, stsdFault, sttsFault, cttsFault, stscFault, stszFault, stcoFault, co64Fault, stssFault, mfhdFault, tfhdFault, tfdtFault, trunFault};
+ghost use Rattle.readers.specs.Readers.{faultOf, trexFault, tkhdFault, elstFault, mdhdFault, hdlrFault};
+ghost use Rattle.readers.specs.Readers.{drefFault, urlFault, stsdFault, sttsFault, cttsFault, stscFault};
+ghost use Rattle.readers.specs.Readers.{stszFault, stcoFault, co64Fault, stssFault, mfhdFault, tfhdFault};
+ghost use Rattle.readers.specs.Readers.{tfdtFault, trunFault};
 use places::kinds;
 use rows::Judged;
 
