@@ -11,11 +11,11 @@ use Rattle.rows.specs.Rows.{widthOf, allowedOf, lastOf, cellsOf, entriesOf}
 use Rattle.rows.specs.declared.Judged.{Judged}
 use Rattle.rows.specs.declared.Judged.the-variants.{Fine, Wrong}
 use Rattle.rounds.proofs.Example.{box}
-use Rattle.places.specs.Kinds.{mdat, mdhd, tkhd, trex, tfhd, stsz, url, elst, hdlr, stts, ctts, stsc, stco, co64, stss, mfhd, tfdt}
+use Rattle.places.specs.Kinds.{mdat, mdhd, tkhd, trex, tfhd, stsz, dref, url, stsd, elst, hdlr, stts, ctts, stsc, stco, co64, stss, mfhd, tfdt, trun}
 use Rattle.readers.specs.Readers.{readers, pick, faultOf}
 
 -- no byte is no box of any type that is read
-none-read : map (λ k. faultOf k []) (trex ∷ tkhd ∷ elst ∷ mdhd ∷ hdlr ∷ url ∷ stts ∷ ctts ∷ stsc ∷ stsz ∷ stco ∷ co64 ∷ stss ∷ mfhd ∷ tfhd ∷ tfdt ∷ []) ≡ replicate 16 (Wrong (refusal 1 0))
+none-read : map (λ k. faultOf k []) (trex ∷ tkhd ∷ elst ∷ mdhd ∷ hdlr ∷ dref ∷ url ∷ stsd ∷ stts ∷ ctts ∷ stsc ∷ stsz ∷ stco ∷ co64 ∷ stss ∷ mfhd ∷ tfhd ∷ tfdt ∷ trun ∷ []) ≡ replicate 19 (Wrong (refusal 1 0))
 unfolding be field when pick readers
 none-read = refl
 
@@ -25,7 +25,7 @@ unfolding when pick readers
 not-read = refl
 
 -- boxes with one number of 4 bytes, or with a table of no entries
-read : map (λ k. faultOf k (box k 0 0 (bytes 4 0))) (elst ∷ url ∷ stts ∷ ctts ∷ stsc ∷ stco ∷ co64 ∷ stss ∷ mfhd ∷ tfdt ∷ []) ≡ replicate 10 Fine
+read : map (λ k. faultOf k (box k 0 0 (bytes 4 0))) (elst ∷ dref ∷ url ∷ stsd ∷ stts ∷ ctts ∷ stsc ∷ stco ∷ co64 ∷ stss ∷ mfhd ∷ tfdt ∷ trun ∷ []) ≡ replicate 13 Fine
 unfolding be bytes field when ruleOf one decode cutOf entriesOf pick readers
 read = refl
 

@@ -5,7 +5,9 @@ ghost use Rattle.movie.specs.Mdhd.{mdhdOf};
 ghost use Rattle.tracks.specs.Tkhd.{tkhdOf};
 ghost use Rattle.edits.specs.Elst.{elstOf};
 ghost use Rattle.handlers.specs.Hdlr.{hdlrOf};
+ghost use Rattle.references.specs.Dref.{drefOf};
 ghost use Rattle.references.specs.Url.{urlOf};
+ghost use Rattle.descriptions.specs.Stsd.{stsdOf};
 ghost use Rattle.timetables.specs.Stts.{sttsOf};
 ghost use Rattle.timetables.specs.Ctts.{cttsOf};
 ghost use Rattle.ruled.specs.Stsc.{stscOf};
@@ -16,7 +18,11 @@ ghost use Rattle.chunks.specs.Co64.{co64Of};
 ghost use Rattle.fragments.specs.Mfhd.{mfhdOf};
 ghost use Rattle.fragments.specs.Tfhd.{tfhdOf};
 ghost use Rattle.fragments.specs.Tfdt.{tfdtOf};
-ghost use Rattle.readers.specs.Readers.{faultOf, trexFault, tkhdFault, elstFault, mdhdFault, hdlrFault, urlFault, sttsFault, cttsFault, stscFault, stszFault, stcoFault, co64Fault, stssFault, mfhdFault, tfhdFault, tfdtFault};
+ghost use Rattle.runs.specs.Trun.{trunOf};
+ghost use Rattle.readers.specs.Readers.{faultOf, trexFault, tkhdFault, elstFault, mdhdFault, hdlrFault};
+ghost use Rattle.readers.specs.Readers.{drefFault, urlFault, stsdFault, sttsFault, cttsFault, stscFault};
+ghost use Rattle.readers.specs.Readers.{stszFault, stcoFault, co64Fault, stssFault, mfhdFault, tfhdFault};
+ghost use Rattle.readers.specs.Readers.{tfdtFault, trunFault};
 use places::kinds;
 use rows::Judged;
 
@@ -65,12 +71,30 @@ fn hdlr(part: &[u8]) -> Judged
     }
 }
 
+fn dref(part: &[u8]) -> Judged
+    ensures { λ r. ⌜ r ≡ drefFault (drefOf (now (part .entry))) ⌝ }
+{
+    match references::dref::read(part) {
+        references::dref::Found::Is(_) => Judged::Fine,
+        references::dref::Found::Refused(q) => Judged::Wrong(q),
+    }
+}
+
 fn url(part: &[u8]) -> Judged
     ensures { λ r. ⌜ r ≡ urlFault (urlOf (now (part .entry))) ⌝ }
 {
     match references::url::read(part) {
         references::url::Found::Is(_) => Judged::Fine,
         references::url::Found::Refused(q) => Judged::Wrong(q),
+    }
+}
+
+fn stsd(part: &[u8]) -> Judged
+    ensures { λ r. ⌜ r ≡ stsdFault (stsdOf (now (part .entry))) ⌝ }
+{
+    match descriptions::stsd::read(part) {
+        descriptions::stsd::Found::Is(_) => Judged::Fine,
+        descriptions::stsd::Found::Refused(q) => Judged::Wrong(q),
     }
 }
 
@@ -164,6 +188,15 @@ fn tfdt(part: &[u8]) -> Judged
     }
 }
 
+fn trun(part: &[u8]) -> Judged
+    ensures { λ r. ⌜ r ≡ trunFault (trunOf (now (part .entry))) ⌝ }
+{
+    match runs::trun::read(part) {
+        runs::trun::Found::Is(_, _) => Judged::Fine,
+        runs::trun::Found::Refused(q) => Judged::Wrong(q),
+    }
+}
+
 // The refusal of the reader of this type, its positions from the part's start on.
 pub fn fault(kind: u32, part: &[u8]) -> Judged
     ensures { λ r. ⌜ r ≡ faultOf kind (now (part .entry)) ⌝ }
@@ -183,8 +216,14 @@ pub fn fault(kind: u32, part: &[u8]) -> Judged
     if kind == kinds::HDLR {
         return hdlr(part);
     }
+    if kind == kinds::DREF {
+        return dref(part);
+    }
     if kind == kinds::URL {
         return url(part);
+    }
+    if kind == kinds::STSD {
+        return stsd(part);
     }
     if kind == kinds::STTS {
         return stts(part);
@@ -215,6 +254,9 @@ pub fn fault(kind: u32, part: &[u8]) -> Judged
     }
     if kind == kinds::TFDT {
         return tfdt(part);
+    }
+    if kind == kinds::TRUN {
+        return trun(part);
     }
     Judged::Fine
 }
