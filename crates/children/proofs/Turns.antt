@@ -5,7 +5,7 @@ use mathlib.Core.Bool.{Bool, true, false}
 use Prim.Native.Nat.{ℕ, zero, suc, _+_, _-_, _<_, _≤_}
 use native.Mathlib.Omega.{arith}
 use lib.ListN.{length, take}
-use lib.Dec.{ltb, eqb}
+use lib.Dec.{ltb}
 use borrow.Author.Tests.{lt-ltb, le-ltb, ltb-true, ltb-false}
 use Rattle.numbers.specs.Field.{refusal, when}
 use Rattle.numbers.specs.declared.Refusal.{Refusal}
@@ -17,7 +17,7 @@ use Rattle.boxes.specs.declared.header.Found.the-variants as found
 use Rattle.boxes.proofs.Within.{Within, header-within}
 use Rattle.layout.specs.declared.read.Fields.{Fields}
 use Rattle.rows.specs.declared.Judged.the-variants.{Fine, Wrong}
-use Rattle.children.specs.Children.{Row, end, fault, box, headed, rowOf, firstIn, wholeIn, inside}
+use Rattle.children.specs.Children.{end, fault, box, headed, rowOf, firstIn, wholeIn, inside}
 use Rattle.children.specs.declared.Child.{Child}
 use Rattle.children.specs.declared.Child.the-variants as child
 

@@ -19,7 +19,7 @@ pub enum Child {
     Refused(Refusal),
 }
 
-// The same in a box that has no fault.
+// Where a child begins, where it is there.
 pub enum Place {
     Absent,
     At(usize),
@@ -124,7 +124,7 @@ pub fn whole(part: &[u8], parent: u32) -> Judged
     whole_from(&part[..end], place)
 }
 
-// Where the first child of this type begins, in a box that was found whole.
+// The place alone: absent where there is no such child, or where a fault comes before it.
 pub fn place_of(part: &[u8], parent: u32, kind: u32) -> Place
     ensures { λ r. ⌜ r ≡ placeOf parent kind (now (part .entry)) ⌝ }
 {

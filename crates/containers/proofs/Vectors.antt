@@ -1,8 +1,8 @@
 -- Worked examples of the definitions, computed. Assumes nothing.
 use mathlib.Core.Path.{_≡_, refl}
-use mathlib.Core.List.{List, [], _∷_, _++_}
-use Prim.Native.Nat.{ℕ, _+_}
-use lib.ListN.{length, replicate}
+use mathlib.Core.List.{[], _++_}
+use Prim.Native.Nat.{_+_}
+use lib.ListN.{replicate}
 use Rattle.numbers.specs.Number.{be, bytes}
 use Rattle.numbers.specs.Field.{refusal, field, when}
 use Rattle.put.specs.Put.{wrote}

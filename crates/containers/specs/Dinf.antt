@@ -6,7 +6,6 @@ use Rattle.places.specs.Kinds.{dinf, dref}
 use Rattle.rows.specs.Judge.{settle}
 use Rattle.children.specs.Children.{wholeOf, placeOf, containerIn}
 use Rattle.children.specs.Children as children
-use Rattle.containers.specs.declared.dinf.Dinf.{Dinf}
 use Rattle.containers.specs.declared.dinf.Found.{Found}
 use Rattle.containers.specs.declared.dinf.Found.the-variants.{Is, Refused}
 

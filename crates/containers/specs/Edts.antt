@@ -6,7 +6,6 @@ use Rattle.places.specs.Kinds.{edts, elst}
 use Rattle.rows.specs.Judge.{settle}
 use Rattle.children.specs.Children.{wholeOf, placeOf, containerIn}
 use Rattle.children.specs.Children as children
-use Rattle.containers.specs.declared.edts.Edts.{Edts}
 use Rattle.containers.specs.declared.edts.Found.{Found}
 use Rattle.containers.specs.declared.edts.Found.the-variants.{Is, Refused}
 

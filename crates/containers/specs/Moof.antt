@@ -1,4 +1,5 @@
--- A fragment of a movie (ISO/IEC 14496-12, 8.8.4): boxes, and where its header and the first track's part lie. Assumes nothing.
+-- A fragment of a movie (ISO/IEC 14496-12, 8.8.4): boxes, and where its header and the first track's part lie.
+-- Assumes nothing.
 use Prim.Native.Nat.{ℕ}
 use mathlib.Core.List.{List}
 use Rattle.put.specs.Put.{Wrote}
@@ -6,7 +7,6 @@ use Rattle.places.specs.Kinds.{moof, mfhd, traf}
 use Rattle.rows.specs.Judge.{settle}
 use Rattle.children.specs.Children.{wholeOf, placeOf, containerIn}
 use Rattle.children.specs.Children as children
-use Rattle.containers.specs.declared.moof.Moof.{Moof}
 use Rattle.containers.specs.declared.moof.Found.{Found}
 use Rattle.containers.specs.declared.moof.Found.the-variants.{Is, Refused}
 

@@ -1,4 +1,5 @@
--- What a movie says of its fragments (ISO/IEC 14496-12, 8.8.1): boxes, and where the first track's defaults lie. Assumes nothing.
+-- What a movie says of its fragments (ISO/IEC 14496-12, 8.8.1): boxes, and where the first track's defaults lie.
+-- Assumes nothing.
 use Prim.Native.Nat.{ℕ}
 use mathlib.Core.List.{List}
 use Rattle.put.specs.Put.{Wrote}
@@ -6,7 +7,6 @@ use Rattle.places.specs.Kinds.{mvex, trex}
 use Rattle.rows.specs.Judge.{settle}
 use Rattle.children.specs.Children.{wholeOf, placeOf, containerIn}
 use Rattle.children.specs.Children as children
-use Rattle.containers.specs.declared.mvex.Mvex.{Mvex}
 use Rattle.containers.specs.declared.mvex.Found.{Found}
 use Rattle.containers.specs.declared.mvex.Found.the-variants.{Is, Refused}
 

@@ -1,4 +1,5 @@
--- The part of a track in a fragment (ISO/IEC 14496-12, 8.8.6): boxes, and where its header, its time and its first run lie. Assumes nothing.
+-- The part of a track in a fragment (ISO/IEC 14496-12, 8.8.6): boxes, and where its header, its time and its first run
+-- lie. Assumes nothing.
 use Prim.Native.Nat.{ℕ}
 use mathlib.Core.List.{List}
 use Rattle.put.specs.Put.{Wrote}
@@ -6,7 +7,6 @@ use Rattle.places.specs.Kinds.{traf, tfhd, tfdt, trun}
 use Rattle.rows.specs.Judge.{settle}
 use Rattle.children.specs.Children.{wholeOf, placeOf, containerIn}
 use Rattle.children.specs.Children as children
-use Rattle.containers.specs.declared.traf.Traf.{Traf}
 use Rattle.containers.specs.declared.traf.Found.{Found}
 use Rattle.containers.specs.declared.traf.Found.the-variants.{Is, Refused}
 

@@ -1,4 +1,5 @@
-// The part of a track in a fragment (ISO/IEC 14496-12, 8.8.6): boxes, and where its header, its time and its first run lie.
+// The part of a track in a fragment (ISO/IEC 14496-12, 8.8.6): boxes, and where its header, its time and its first run
+// lie.
 ghost use mathlib.Core.Path.{_≡_};
 ghost use Rattle.put.specs.Put.{wrote};
 ghost use Rattle.containers.specs.Traf.{trafOf, contentOf, trafIn};

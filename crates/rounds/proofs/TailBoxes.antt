@@ -1,12 +1,10 @@
 -- Boxes that end with bytes of any kind: what is written reads back the same, and a canonical box gives its own bytes.
 -- Assumes nothing.
-use mathlib.Core.Path.{_≡_, refl, sym, ap, ap₂, _∙_}
-use mathlib.Core.List.{List, [], _++_}
+use mathlib.Core.Path.{_≡_, refl, sym, ap, _∙_}
+use mathlib.Core.List.{List, _++_}
 use Prim.Native.Nat.{ℕ, _+_, _-_, _≤_, _<_}
-use native.Mathlib.Omega.{arith}
 use lib.ListN.{length, take, drop, length-drop}
 use lib.Seq.{sets, take-length}
-use Rattle.numbers.specs.Field.{when}
 use Rattle.numbers.specs.declared.Refusal.{Refusal}
 use Rattle.put.specs.Put.{wrote}
 use Rattle.put.specs.declared.Put.the-variants.{Done}

@@ -1,9 +1,8 @@
-use Prim.Native.Nat.{ℕ, _+_, _-_, _≤_}
+use Prim.Native.Nat.{ℕ, _-_, _≤_}
 use mathlib.Core.Path.{_≡_, refl, sym, _∙_}
 use native.Mathlib.Omega.{arith}
 use lib.ListN.{length}
-use Rattle.boxes.specs.declared.header.Header.{Header}
-use Rattle.boxes.proofs.Within.{Within, header-within}
+use Rattle.boxes.proofs.Within.{header-within}
 use Rattle.children.specs.Children.{rowOf, wholeIn}
 use Rattle.children.proofs.Turns.{whole-fault, one-whole, all-whole}
 use borrow.Author.Needs.{needs}

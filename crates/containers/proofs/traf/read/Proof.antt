@@ -26,7 +26,7 @@ returns : tie.Need-returns
 returns c = unsettles _ _ _ _ (c .before .before .before .whole .ensures) _ (c .before .q .given .1) _ refl
 
 returns-2 : tie.Need-returns-2
-returns-2 c = settles _ _ _ _ (c .before .before .before .before .before .whole .ensures) (c .before .before .before .enum-told .given .1) _ (cc)
+returns-2 c = settles _ _ _ _ (c .before .before .before .before .before .whole .ensures) (c .before .before .before .enum-told .given .1) _ cc
 
 pub read-spec : {M : Type 1} → statement M
 read-spec =
