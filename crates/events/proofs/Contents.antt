@@ -12,7 +12,7 @@ use Rattle.numbers.specs.Field.{when, refusal}
 use Rattle.numbers.proofs.Chain.{is-eq, is-ne, way}
 use Rattle.layout.specs.Read.{readOf}
 use Rattle.layout.specs.declared.read.Fields.{Fields}
-use Rattle.rounds.proofs.Boxes.{end-in}
+use Rattle.layout.proofs.Rests.{end-in}
 use Rattle.events.specs.Emsg.{kind, fields, stringsOf, numbersOf, emsg, places, afterStrings, numbersLast, afterNumbers, stringsLast, stringsFirst, numbersFirst, contentOf, fullOf, emsgOf}
 use Rattle.events.specs.declared.emsg.Emsg.{Emsg}
 use Rattle.events.specs.declared.emsg.Places.{Places}

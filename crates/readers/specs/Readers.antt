@@ -7,6 +7,9 @@ use Rattle.numbers.specs.Field.{when}
 use Rattle.places.specs.Kinds as kinds
 use Rattle.rows.specs.declared.Judged.{Judged}
 use Rattle.rows.specs.declared.Judged.the-variants.{Fine, Wrong}
+use Rattle.events.specs.Emsg.{emsgOf}
+use Rattle.events.specs.declared.emsg.Found as emsg-found
+use Rattle.events.specs.declared.emsg.Found.the-variants as emsg
 use Rattle.movie.specs.Trex.{trexOf}
 use Rattle.movie.specs.declared.trex.Found as trex-found
 use Rattle.movie.specs.declared.trex.Found.the-variants as trex
@@ -66,6 +69,10 @@ use Rattle.runs.specs.declared.trun.Found as trun-found
 use Rattle.runs.specs.declared.trun.Found.the-variants as trun
 
 -- what each reader's answer refuses
+abbrev pub emsgFault : emsg-found.Found → Judged
+emsgFault (emsg.Is m at) = Fine
+emsgFault (emsg.Refused q) = Wrong q
+
 abbrev pub trexFault : trex-found.Found → Judged
 trexFault (trex.Is m) = Fine
 trexFault (trex.Refused q) = Wrong q
@@ -152,6 +159,7 @@ reader kind fault = record { kind = kind; fault = fault }
 
 unfoldable pub readers : List Reader
 readers =
+    reader kinds.emsg (λ part. emsgFault (emsgOf part)) ∷
     reader kinds.trex (λ part. trexFault (trexOf part)) ∷
     reader kinds.tkhd (λ part. tkhdFault (tkhdOf part)) ∷
     reader kinds.elst (λ part. elstFault (elstOf part)) ∷

@@ -1,5 +1,6 @@
 // What the reader of a box of any type refuses. A type whose content is not read is fine.
 ghost use mathlib.Core.Path.{_≡_};
+ghost use Rattle.events.specs.Emsg.{emsgOf};
 ghost use Rattle.movie.specs.Trex.{trexOf};
 ghost use Rattle.movie.specs.Mdhd.{mdhdOf};
 ghost use Rattle.tracks.specs.Tkhd.{tkhdOf};
@@ -19,12 +20,21 @@ ghost use Rattle.fragments.specs.Mfhd.{mfhdOf};
 ghost use Rattle.fragments.specs.Tfhd.{tfhdOf};
 ghost use Rattle.fragments.specs.Tfdt.{tfdtOf};
 ghost use Rattle.runs.specs.Trun.{trunOf};
-ghost use Rattle.readers.specs.Readers.{faultOf, trexFault, tkhdFault, elstFault, mdhdFault, hdlrFault};
-ghost use Rattle.readers.specs.Readers.{drefFault, urlFault, stsdFault, sttsFault, cttsFault, stscFault};
-ghost use Rattle.readers.specs.Readers.{stszFault, stcoFault, co64Fault, stssFault, mfhdFault, tfhdFault};
-ghost use Rattle.readers.specs.Readers.{tfdtFault, trunFault};
+ghost use Rattle.readers.specs.Readers.{faultOf, emsgFault, trexFault, tkhdFault, elstFault, mdhdFault};
+ghost use Rattle.readers.specs.Readers.{hdlrFault, drefFault, urlFault, stsdFault, sttsFault, cttsFault};
+ghost use Rattle.readers.specs.Readers.{stscFault, stszFault, stcoFault, co64Fault, stssFault, mfhdFault};
+ghost use Rattle.readers.specs.Readers.{tfhdFault, tfdtFault, trunFault};
 use places::kinds;
 use rows::Judged;
+
+fn emsg(part: &[u8]) -> Judged
+    ensures { λ r. ⌜ r ≡ emsgFault (emsgOf (now (part .entry))) ⌝ }
+{
+    match events::emsg::read(part) {
+        events::emsg::Found::Is(_, _) => Judged::Fine,
+        events::emsg::Found::Refused(q) => Judged::Wrong(q),
+    }
+}
 
 fn trex(part: &[u8]) -> Judged
     ensures { λ r. ⌜ r ≡ trexFault (trexOf (now (part .entry))) ⌝ }
@@ -201,6 +211,9 @@ fn trun(part: &[u8]) -> Judged
 pub fn fault(kind: u32, part: &[u8]) -> Judged
     ensures { λ r. ⌜ r ≡ faultOf kind (now (part .entry)) ⌝ }
 {
+    if kind == kinds::EMSG {
+        return emsg(part);
+    }
     if kind == kinds::TREX {
         return trex(part);
     }
