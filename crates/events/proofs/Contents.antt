@@ -1,18 +1,17 @@
 -- What a reader found, taken apart: the version says what stands first, and each place lies in the box. Assumes nothing.
-use mathlib.Core.Path.{_≡_, refl, sym, ap, ap₂, _∙_}
-use mathlib.Core.List.{List, []}
-use mathlib.Core.Bool.{Bool, true, false}
+use mathlib.Core.Path.{_≡_, refl, ap, _∙_}
+use mathlib.Core.List.{List}
+use mathlib.Core.Bool.{true}
 use mathlib.Core.Logic.{_⊎_, inl, inr, ⊎-elim}
-use Prim.Native.Nat.{ℕ, _+_, _-_, _≤_, _<_, min}
+use Prim.Native.Nat.{ℕ, _+_, _-_, _≤_, _<_}
 use native.Mathlib.Omega.{arith}
-use lib.ListN.{length, length-take, getD, take, drop}
+use lib.ListN.{length, length-take, getD, take}
 use lib.Dec.{eqb}
 use borrow.Author.Tests.{eqb-true, eqb-false}
-use Rattle.numbers.specs.Field.{when, refusal}
+use Rattle.numbers.specs.Field.{refusal}
 use Rattle.numbers.proofs.Chain.{is-eq, is-ne, way}
 use Rattle.layout.specs.Read.{readOf}
 use Rattle.layout.specs.declared.read.Fields.{Fields}
-use Rattle.layout.proofs.Rests.{end-in}
 use Rattle.events.specs.Emsg.{kind, fields, stringsOf, numbersOf, emsg, places, afterStrings, numbersLast, afterNumbers, stringsLast, stringsFirst, numbersFirst, contentOf, fullOf, emsgOf}
 use Rattle.events.specs.declared.emsg.Emsg.{Emsg}
 use Rattle.events.specs.declared.emsg.Places.{Places}
@@ -140,8 +139,10 @@ opened b m p h = ⊎-elim (λ y. read-is (y .0) (y .1)) (λ y. refused (y .1)) (
 pub record Inside (b : List ℕ) (p : Places) : Type 0 where
   pub scheme : p .scheme ≤ p .«scheme_end»
   pub scheme-in : p .«scheme_end» ≤ length b
+  pub apart : p .«scheme_end» < p .value
   pub value : p .value ≤ p .«value_end»
   pub value-in : p .«value_end» ≤ length b
+  pub behind : p .«value_end» < p .message
   pub message : p .message ≤ p .end
   pub message-in : p .end ≤ length b
 
@@ -159,8 +160,10 @@ inside b m p h = ⊎-elim (λ y. as-early (y .1)) (λ y. as-late (y .1)) (opened
         record {
           scheme = omega (arith, h1, ap (λ p. p .scheme) q, ap (λ p. p .«scheme_end») q);
           scheme-in = omega (arith, h2, h3, h4, l, ap (λ p. p .«scheme_end») q);
+          apart = omega (arith, ap (λ p. p .«scheme_end») q, ap (λ p. p .value) q);
           value = omega (arith, h2, ap (λ p. p .value) q, ap (λ p. p .«value_end») q);
           value-in = omega (arith, h3, h4, l, ap (λ p. p .«value_end») q);
+          behind = omega (arith, h3, ap (λ p. p .«value_end») q, ap (λ p. p .message) q);
           message = omega (arith, h4, ap (λ p. p .message) q, ap (λ p. p .end) q);
           message-in = omega (arith, l, ap (λ p. p .end) q);
         }

@@ -1,13 +1,13 @@
 -- What `write` does, step by step. Assumes nothing.
 use mathlib.Core.Path.{_≡_, refl, sym, ap, ap₂, _∙_}
-use mathlib.Core.List.{List, [], _∷_, _++_, append-assoc, append-nil}
+use mathlib.Core.List.{List, [], _∷_, _++_, append-nil}
 use mathlib.Core.Bool.{Bool, true, false, _&&_}
 use Prim.Native.Nat.{ℕ, _+_, _-_, _^_, _≤_, _<_, min}
 use native.Mathlib.Nat.{zero-add}
 use native.Mathlib.Omega.{arith}
 use lib.ListN.{length, drop, length-append}
 use lib.Seq.{sets, sets-eq, length-sets}
-use lib.Dec.{eqb, ltb}
+use lib.Dec.{eqb}
 use borrow.Author.Tests.{eq-eqb, ne-eqb, eqb-true, eqb-false, lt-ltb, le-ltb, ltb-true}
 use Rattle.numbers.specs.Number.{bytes}
 use Rattle.numbers.specs.Field.{when, refusal, widest}
@@ -61,7 +61,7 @@ and-second a b c d e f p q = sym (simp (p, q))
 and-fifth : (a b c d e f : Bool) → a ≡ true → b ≡ true → c ≡ true → d ≡ true → e ≡ false → false ≡ a && b && c && d && e && f
 and-fifth a b c d e f p q r s t = sym (simp (p, q, r, s, t))
 
-and-last : (a b c d e f : Bool) → a ≡ true → b ≡ true → c ≡ true → d ≡ true → e ≡ true → f ≡ a && b && c && d && e && f
+pub and-last : (a b c d e f : Bool) → a ≡ true → b ≡ true → c ≡ true → d ≡ true → e ≡ true → f ≡ a && b && c && d && e && f
 and-last a b c d e f p q r s t = sym (simp (p, q, r, s, t))
 
 module _ (m : Emsg) (s v : List ℕ) (hs : m .timescale < 256 ^ 4) where

@@ -2,7 +2,7 @@
 use mathlib.Core.Path.{_≡_, refl, sym, ap, ap₂, _∙_}
 use mathlib.Core.List.{List, [], _∷_, _++_}
 use mathlib.Core.Bool.{Bool, true, false}
-use Prim.Native.Nat.{ℕ, zero, suc, _+_, _-_, _≤_, _<_}
+use Prim.Native.Nat.{ℕ, suc, _+_, _-_, _≤_, _<_}
 use native.Mathlib.Nat.{add-zero}
 use native.Mathlib.Numerals.{add-one}
 use native.Mathlib.Omega.{arith}
@@ -11,7 +11,7 @@ use lib.Seq.{drop-cons}
 use lib.Dec.{eqb}
 use borrow.Author.Tests.{eq-eqb, ne-eqb, eqb-true}
 use Rattle.numbers.specs.Field.{when}
-use Rattle.events.specs.Emsg.{textEnd, textAt, firstOf, secondOf, stringsOf, whole}
+use Rattle.events.specs.Emsg.{textEnd, textAt, firstOf, secondOf, stringsOf}
 use Rattle.events.specs.declared.emsg.Text.{Text}
 use Rattle.events.specs.declared.emsg.Text.the-variants.{End, Cut}
 use Rattle.events.specs.declared.emsg.Strings.the-variants as strings

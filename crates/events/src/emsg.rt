@@ -2,9 +2,8 @@
 // is the rest of the box (A27). Version 0 has the strings first and a time of 4 bytes, version 1 the numbers first and
 // a time of 8.
 ghost use mathlib.Core.Path.{_≡_};
-ghost use mathlib.Core.List.{_++_};
 ghost use Prim.Native.Nat.{_+_, _-_, _^_, _≤_, _<_, min};
-ghost use lib.ListN.{length, take, drop};
+ghost use lib.ListN.{length};
 ghost use lib.Seq.{sets};
 ghost use Rattle.put.specs.Put.{wrote};
 ghost use Rattle.events.specs.Emsg.{textAt, stringsOf, numbersOf, stringsFirst, numbersFirst, emsgOf, schemeOf, valueOf, messageOf, wide, whole, sound, stringBytes, numberBytes, laid, emsgIn};

@@ -29,7 +29,7 @@ array-read-if2 : tie.Need-array-read-if2
 array-read-if2 c = search needs
 
 slice-aggregate-strings-first : tie.Need-slice-aggregate-strings-first
-slice-aggregate-strings-first c = sym (length-take-le _ (c .before .before .before .before .before .before .before .args .part .now) (end-in kind fields (c .before .before .before .before .before .before .before .args .part .now) _ (c .before .before .before .before .before .by .ensures)))
+slice-aggregate-strings-first c = sym (length-take-le _ (c .before .before .before .before .before .before .before .args .part .now) (omega (arith, (end-in kind fields (c .before .before .before .before .before .before .before .args .part .now) _ (c .before .before .before .before .before .by .ensures)))))
 
 strings-first-requires : tie.Need-strings-first-requires
 strings-first-requires c κs = search needs
@@ -38,7 +38,7 @@ returns-2 : tie.Need-returns-2
 returns-2 c = early-told (c .before .before .before .before .before .before .before .before .args .part .now) _ (c .before .before .before .before .before .before .by .ensures) _ (c .before .before .before .before .if1 .left) (c .before .before .if2 .taken) (c .strings-first .ensures)
 
 slice-aggregate-numbers-first : tie.Need-slice-aggregate-numbers-first
-slice-aggregate-numbers-first c = sym (length-take-le _ (c .before .before .before .before .before .before .before .args .part .now) (end-in kind fields (c .before .before .before .before .before .before .before .args .part .now) _ (c .before .before .before .before .before .by .ensures)))
+slice-aggregate-numbers-first c = sym (length-take-le _ (c .before .before .before .before .before .before .before .args .part .now) (omega (arith, (end-in kind fields (c .before .before .before .before .before .before .before .args .part .now) _ (c .before .before .before .before .before .by .ensures)))))
 
 numbers-first-requires : tie.Need-numbers-first-requires
 numbers-first-requires c κs = search needs

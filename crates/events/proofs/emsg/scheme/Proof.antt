@@ -22,13 +22,13 @@ returns : tie.Need-returns
 returns c = ap (spanOf (λ p. p .scheme) (λ p. p .«scheme_end») (c .before .before .before .before .before .args .part .now)) (sym (c .before .enum-told .given .1) ∙ c .before .before .before .read .ensures)
 
 sub-result : tie.Need-sub-result
-sub-result c = omega (arith, inside (c .before .before .before .before .before .args .part .now) _ _ (sym (c .before .before .before .read .ensures) ∙ c .before .places .given .1) .scheme)
+sub-result c = omega (arith, inside (c .before .before .before .before .before .args .part .now) _ _ (sym (c .before .before .before .read .ensures) ∙ c .before .places .given .1))
 
 part-result-start : tie.Need-part-result-start
-part-result-start c = omega (arith, inside (c .before .before .before .before .before .args .part .now) _ _ (sym (c .before .before .before .read .ensures) ∙ c .before .places .given .1) .scheme)
+part-result-start c = omega (arith, inside (c .before .before .before .before .before .args .part .now) _ _ (sym (c .before .before .before .read .ensures) ∙ c .before .places .given .1))
 
 part-result-end : tie.Need-part-result-end
-part-result-end c = omega (arith, inside (c .before .before .before .before .before .args .part .now) _ _ (sym (c .before .before .before .read .ensures) ∙ c .before .places .given .1) .scheme-in)
+part-result-end c = omega (arith, inside (c .before .before .before .before .before .args .part .now) _ _ (sym (c .before .before .before .read .ensures) ∙ c .before .places .given .1))
 
 returns-2 : tie.Need-returns-2
 returns-2 c = ap (spanOf (λ p. p .scheme) (λ p. p .«scheme_end») (c .before .before .before .before .before .before .args .part .now)) (sym (c .before .before .places .given .1) ∙ c .before .before .before .before .read .ensures)
