@@ -1,0 +1,112 @@
+-- Numbers held against other boxes, box after box. Assumes nothing.
+use mathlib.Core.Path.{_≡_, refl, sym, ap, _∙_}
+use mathlib.Core.List.{List, [], _∷_}
+use mathlib.Core.Bool.{Bool, true, false, _&&_}
+use Prim.Native.Nat.{ℕ, zero, suc, _+_, _-_, _≤_, _<_}
+use native.Mathlib.Omega.{arith}
+use lib.ListN.{length, take, drop, length-drop}
+use lib.Seq.{take-all, take-nil, drop-nil}
+use lib.Dec.{eqb, ltb, leb}
+use borrow.Author.Tests.{leb-true, ltb-true, ltb-false}
+use Rattle.numbers.specs.Field.{when}
+use Rattle.numbers.proofs.Chain.{by-true, by-false, is-lt, not-lt}
+use Rattle.places.specs.Kinds.{tfhd}
+use Rattle.rows.specs.declared.Judged.the-variants.{Fine}
+use Rattle.readers.specs.Readers.{Reader, readers, pick, faultOf}
+use Rattle.readers.proofs.Picks.{further, unread}
+use Rattle.keys.proofs.Picks as key
+use Rattle.keys.specs.Key.{keys, keyOf}
+use Rattle.keys.specs.declared.Key.the-variants.{Absent}
+use Rattle.contents.specs.Before.{sum}
+use Rattle.contents.specs.Kin.{Boxes, at, stands}
+use Rattle.contents.specs.Held.{keyAt, numberIn, trackFrom}
+
+-- AS MUCH OF THE BYTES AS THERE ARE
+
+drop-out : (s : List ℕ) (n : ℕ) → length s ≤ n → drop n s ≡ []
+drop-out [] n h = drop-nil n
+drop-out (x ∷ s) zero h = absurd (omega arith)
+drop-out (x ∷ s) (suc n) h = drop-out s n (omega arith)
+
+pub none-there : (s : List ℕ) (start size : ℕ) → length s ≤ start → [] ≡ take size (drop start s)
+none-there s start size h = sym (ap (take size) (drop-out s start h) ∙ take-nil size)
+
+pub rest-there : (s : List ℕ) (start size : ℕ) → length s - start ≤ size → take (length s - start) (drop start s) ≡ take size (drop start s)
+rest-there s start size h =
+    take-all (length s - start) (drop start s) (omega (arith, length-drop start s))
+    ∙ sym (take-all size (drop start s) (omega (arith, length-drop start s)))
+
+-- TWO TESTS
+
+module _ (z b : Bool) (t : Bool) where
+  pub and-true : t ≡ true → z ≡ b → z ≡ _&&_ t b
+  and-true e q = q ∙ sym (ap (λ t. _&&_ t b) e)
+
+pub and-false : (t b : Bool) → t ≡ false → false ≡ _&&_ t b
+and-false t b e = sym (ap (λ t. _&&_ t b) e)
+
+-- A TYPE IS A NUMBER OF FOUR BYTES
+
+abbrev typed : List Reader → Bool
+typed [] = true
+typed (r ∷ rs) = when (leb (r .kind) 4294967295) (typed rs) false
+
+both : (t u : Bool) → when t u false ≡ true → (t ≡ true) × (u ≡ true)
+unfolding when
+both true u e = (refl, e)
+both false u e = let z : _≡_ {A = ℕ} 0 1 = cc in absurd (omega arith)
+
+pick-none : (kind : ℕ) (part : List ℕ) (rs : List Reader) → 4294967295 < kind → typed rs ≡ true → Fine ≡ pick kind part rs
+pick-none kind part [] h e = unread kind part
+pick-none kind part (r ∷ rs) h e =
+    let b = both (leb (r .kind) 4294967295) (typed rs) e in
+    further kind part r rs Fine (λ q. omega (arith, leb-true (r .kind) 4294967295 (b .0))) (pick-none kind part rs h (b .1))
+
+pub no-reader : (kind : ℕ) (part : List ℕ) → 4294967295 < kind → Fine ≡ faultOf kind part
+unfolding readers when
+no-reader kind part h = pick-none kind part readers h refl
+
+pub no-key : (kind : ℕ) (part : List ℕ) → 4294967295 < kind → Absent ≡ keyOf kind part
+unfolding keys
+no-key kind part h =
+    key.further kind part _ _ _ (λ e. omega arith)
+    (key.further kind part _ _ _ (λ e. omega arith)
+    (key.further kind part _ _ _ (λ e. omega arith)
+    (key.further kind part _ _ _ (λ e. omega arith)
+    (key.further kind part _ _ _ (λ e. omega arith)
+    (key.further kind part _ _ _ (λ e. omega arith)
+    (key.unkeyed kind part))))))
+
+-- THE TRACK OF A RUN
+
+module _ (s : List ℕ) (t : Boxes) (p k end : ℕ) (h : k < end) where
+  step : trackFrom (end - k) s t p k ≡
+      when (ltb (at (t .parents) k) p) 0
+      (when (_&&_ (eqb (at (t .parents) k) p) (stands t tfhd k)) (numberIn (keyAt s t k)) (trackFrom (end - (k + 1)) s t p (k + 1)))
+  unfolding trackFrom
+  step = ap (λ n. trackFrom n s t p k) (let z : end - k ≡ suc (end - (k + 1)) = omega arith in z)
+
+  pub track-left : at (t .parents) k < p → 0 ≡ trackFrom (end - k) s t p k
+  track-left l = is-lt _ _ 0 (at (t .parents) k) p l refl ∙ sym step
+
+  pub track-here : (x : ℕ) → p ≤ at (t .parents) k → _&&_ (eqb (at (t .parents) k) p) (stands t tfhd k) ≡ true → x ≡ numberIn (keyAt s t k) → x ≡ trackFrom (end - k) s t p k
+  track-here x l e q = not-lt _ _ x (at (t .parents) k) p l (by-true _ _ x _ e q) ∙ sym step
+
+  pub track-on : p ≤ at (t .parents) k → _&&_ (eqb (at (t .parents) k) p) (stands t tfhd k) ≡ false → trackFrom (end - (k + 1)) s t p (k + 1) ≡ trackFrom (end - k) s t p k
+  track-on l e = not-lt _ _ _ (at (t .parents) k) p l (by-false _ _ _ _ e refl) ∙ sym step
+
+pub track-none : (s : List ℕ) (t : Boxes) (p k end : ℕ) → end ≤ k → 0 ≡ trackFrom (end - k) s t p k
+unfolding trackFrom
+track-none s t p k end h = sym (ap (λ n. trackFrom n s t p k) (let z : end - k ≡ 0 = omega arith in z))
+
+-- SUMS THAT PASS A LIMIT
+
+-- a sum grows with each box
+pub sum-grows : (f : ℕ → ℕ) (i j : ℕ) → j < i → sum f j + f j ≤ sum f i
+unfolding sum
+sum-grows f zero j h = absurd (omega arith)
+sum-grows f (suc i) j h = by (ltb j i) refl (sum-grows f i j)
+  where
+    by : (t : Bool) → ltb j i ≡ t → (j < i → sum f j + f j ≤ sum f i) → sum f j + f j ≤ sum f i + f i
+    by true q ih = omega (arith, ih (ltb-true j i q))
+    by false q ih = omega (arith, ap (λ k. sum f k + f k) (let z : j ≡ i = omega (arith, ltb-false j i q) in z))

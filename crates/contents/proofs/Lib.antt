@@ -1,0 +1,5 @@
+pub mod Befores
+pub mod Kins
+pub mod Helds
+mod Unique
+mod Vectors

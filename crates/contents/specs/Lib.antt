@@ -1,0 +1,4 @@
+pub mod Before
+pub mod Kin
+pub mod Held
+pub mod Contents
