@@ -20,24 +20,24 @@ use Rattle.layout.specs.declared.read.Fields.{Fields}
 use Rattle.layout.specs.declared.table.Cut.{Cut}
 use Rattle.layout.specs.declared.table.Cut.the-variants.{Whole, At}
 use Rattle.places.specs.Kinds as kinds
-use Rattle.tracks.specs.Tkhd as tkhd
-use Rattle.tracks.specs.declared.tkhd.Tkhd.{Tkhd}
-use Rattle.tracks.specs.declared.tkhd.Found.the-variants as found-tkhd
-use Rattle.movie.specs.Trex as trex
-use Rattle.movie.specs.declared.trex.Trex.{Trex}
-use Rattle.movie.specs.declared.trex.Found.the-variants as found-trex
-use Rattle.fragments.specs.Tfhd as tfhd
-use Rattle.fragments.specs.declared.tfhd.Tfhd.{Tfhd}
-use Rattle.fragments.specs.declared.tfhd.Found.the-variants as found-tfhd
-use Rattle.sizes.specs.Stsz as stsz
-use Rattle.sizes.specs.declared.stsz.Stsz.{Stsz}
-use Rattle.sizes.specs.declared.stsz.Found.the-variants as found-stsz
-use Rattle.runs.specs.Trun as trun
-use Rattle.runs.specs.declared.trun.Trun.{Trun}
-use Rattle.runs.specs.declared.trun.Found.the-variants as found-trun
-use Rattle.references.specs.Url as url
-use Rattle.references.specs.declared.url.Url.{Url}
-use Rattle.references.specs.declared.url.Found.the-variants as found-url
+use Rattle.tkhd.specs.Tkhd as tkhd
+use Rattle.tkhd.specs.declared.Tkhd.{Tkhd}
+use Rattle.tkhd.specs.declared.Found.the-variants as found-tkhd
+use Rattle.trex.specs.Trex as trex
+use Rattle.trex.specs.declared.Trex.{Trex}
+use Rattle.trex.specs.declared.Found.the-variants as found-trex
+use Rattle.tfhd.specs.Tfhd as tfhd
+use Rattle.tfhd.specs.declared.Tfhd.{Tfhd}
+use Rattle.tfhd.specs.declared.Found.the-variants as found-tfhd
+use Rattle.stsz.specs.Stsz as stsz
+use Rattle.stsz.specs.declared.Stsz.{Stsz}
+use Rattle.stsz.specs.declared.Found.the-variants as found-stsz
+use Rattle.trun.specs.Trun as trun
+use Rattle.trun.specs.declared.Trun.{Trun}
+use Rattle.trun.specs.declared.Found.the-variants as found-trun
+use Rattle.url.specs.Url as url
+use Rattle.url.specs.declared.Url.{Url}
+use Rattle.url.specs.declared.Found.the-variants as found-url
 use Rattle.keys.specs.Key.{keyAt, pickKey, keys, keyOf}
 use Rattle.keys.specs.declared.Key.the-variants.{Is}
 use Rattle.keys.proofs.Firsts.{key-in}

@@ -12,12 +12,12 @@ use Rattle.layout.specs.Write.{padded}
 use Rattle.layout.specs.declared.Field.{Field}
 use Rattle.layout.specs.declared.read.Fields.{Fields}
 use Rattle.places.specs.Kinds as kinds
-use Rattle.tracks.specs.Tkhd as tkhd
-use Rattle.movie.specs.Trex as trex
-use Rattle.fragments.specs.Tfhd as tfhd
-use Rattle.sizes.specs.Stsz as stsz
-use Rattle.runs.specs.Trun as trun
-use Rattle.references.specs.Url as url
+use Rattle.tkhd.specs.Tkhd as tkhd
+use Rattle.trex.specs.Trex as trex
+use Rattle.tfhd.specs.Tfhd as tfhd
+use Rattle.stsz.specs.Stsz as stsz
+use Rattle.trun.specs.Trun as trun
+use Rattle.url.specs.Url as url
 use Rattle.keys.specs.declared.Key.{Key}
 use Rattle.keys.specs.declared.Key.the-variants.{Absent, Is}
 

@@ -7,66 +7,66 @@ use Rattle.numbers.specs.Field.{when}
 use Rattle.places.specs.Kinds as kinds
 use Rattle.rows.specs.declared.Judged.{Judged}
 use Rattle.rows.specs.declared.Judged.the-variants.{Fine, Wrong}
-use Rattle.events.specs.Emsg.{emsgOf}
-use Rattle.events.specs.declared.emsg.Found as emsg-found
-use Rattle.events.specs.declared.emsg.Found.the-variants as emsg
-use Rattle.movie.specs.Trex.{trexOf}
-use Rattle.movie.specs.declared.trex.Found as trex-found
-use Rattle.movie.specs.declared.trex.Found.the-variants as trex
-use Rattle.tracks.specs.Tkhd.{tkhdOf}
-use Rattle.tracks.specs.declared.tkhd.Found as tkhd-found
-use Rattle.tracks.specs.declared.tkhd.Found.the-variants as tkhd
-use Rattle.edits.specs.Elst.{elstOf}
-use Rattle.edits.specs.declared.elst.Found as elst-found
-use Rattle.edits.specs.declared.elst.Found.the-variants as elst
-use Rattle.movie.specs.Mdhd.{mdhdOf}
-use Rattle.movie.specs.declared.mdhd.Found as mdhd-found
-use Rattle.movie.specs.declared.mdhd.Found.the-variants as mdhd
-use Rattle.handlers.specs.Hdlr.{hdlrOf}
-use Rattle.handlers.specs.declared.hdlr.Found as hdlr-found
-use Rattle.handlers.specs.declared.hdlr.Found.the-variants as hdlr
-use Rattle.references.specs.Dref.{drefOf}
-use Rattle.references.specs.declared.dref.Found as dref-found
-use Rattle.references.specs.declared.dref.Found.the-variants as dref
-use Rattle.references.specs.Url.{urlOf}
-use Rattle.references.specs.declared.url.Found as url-found
-use Rattle.references.specs.declared.url.Found.the-variants as url
-use Rattle.descriptions.specs.Stsd.{stsdOf}
-use Rattle.descriptions.specs.declared.stsd.Found as stsd-found
-use Rattle.descriptions.specs.declared.stsd.Found.the-variants as stsd
-use Rattle.timetables.specs.Stts.{sttsOf}
-use Rattle.timetables.specs.declared.stts.Found as stts-found
-use Rattle.timetables.specs.declared.stts.Found.the-variants as stts
-use Rattle.timetables.specs.Ctts.{cttsOf}
-use Rattle.timetables.specs.declared.ctts.Found as ctts-found
-use Rattle.timetables.specs.declared.ctts.Found.the-variants as ctts
-use Rattle.ruled.specs.Stsc.{stscOf}
-use Rattle.ruled.specs.declared.stsc.Found as stsc-found
-use Rattle.ruled.specs.declared.stsc.Found.the-variants as stsc
-use Rattle.sizes.specs.Stsz.{stszOf}
-use Rattle.sizes.specs.declared.stsz.Found as stsz-found
-use Rattle.sizes.specs.declared.stsz.Found.the-variants as stsz
-use Rattle.chunks.specs.Stco.{stcoOf}
-use Rattle.chunks.specs.declared.stco.Found as stco-found
-use Rattle.chunks.specs.declared.stco.Found.the-variants as stco
-use Rattle.chunks.specs.Co64.{co64Of}
-use Rattle.chunks.specs.declared.co64.Found as co64-found
-use Rattle.chunks.specs.declared.co64.Found.the-variants as co64
-use Rattle.ruled.specs.Stss.{stssOf}
-use Rattle.ruled.specs.declared.stss.Found as stss-found
-use Rattle.ruled.specs.declared.stss.Found.the-variants as stss
-use Rattle.fragments.specs.Mfhd.{mfhdOf}
-use Rattle.fragments.specs.declared.mfhd.Found as mfhd-found
-use Rattle.fragments.specs.declared.mfhd.Found.the-variants as mfhd
-use Rattle.fragments.specs.Tfhd.{tfhdOf}
-use Rattle.fragments.specs.declared.tfhd.Found as tfhd-found
-use Rattle.fragments.specs.declared.tfhd.Found.the-variants as tfhd
-use Rattle.fragments.specs.Tfdt.{tfdtOf}
-use Rattle.fragments.specs.declared.tfdt.Found as tfdt-found
-use Rattle.fragments.specs.declared.tfdt.Found.the-variants as tfdt
-use Rattle.runs.specs.Trun.{trunOf}
-use Rattle.runs.specs.declared.trun.Found as trun-found
-use Rattle.runs.specs.declared.trun.Found.the-variants as trun
+use Rattle.emsg.specs.Emsg.{emsgOf}
+use Rattle.emsg.specs.declared.Found as emsg-found
+use Rattle.emsg.specs.declared.Found.the-variants as emsg
+use Rattle.trex.specs.Trex.{trexOf}
+use Rattle.trex.specs.declared.Found as trex-found
+use Rattle.trex.specs.declared.Found.the-variants as trex
+use Rattle.tkhd.specs.Tkhd.{tkhdOf}
+use Rattle.tkhd.specs.declared.Found as tkhd-found
+use Rattle.tkhd.specs.declared.Found.the-variants as tkhd
+use Rattle.elst.specs.Elst.{elstOf}
+use Rattle.elst.specs.declared.Found as elst-found
+use Rattle.elst.specs.declared.Found.the-variants as elst
+use Rattle.mdhd.specs.Mdhd.{mdhdOf}
+use Rattle.mdhd.specs.declared.Found as mdhd-found
+use Rattle.mdhd.specs.declared.Found.the-variants as mdhd
+use Rattle.hdlr.specs.Hdlr.{hdlrOf}
+use Rattle.hdlr.specs.declared.Found as hdlr-found
+use Rattle.hdlr.specs.declared.Found.the-variants as hdlr
+use Rattle.dref.specs.Dref.{drefOf}
+use Rattle.dref.specs.declared.Found as dref-found
+use Rattle.dref.specs.declared.Found.the-variants as dref
+use Rattle.url.specs.Url.{urlOf}
+use Rattle.url.specs.declared.Found as url-found
+use Rattle.url.specs.declared.Found.the-variants as url
+use Rattle.stsd.specs.Stsd.{stsdOf}
+use Rattle.stsd.specs.declared.Found as stsd-found
+use Rattle.stsd.specs.declared.Found.the-variants as stsd
+use Rattle.stts.specs.Stts.{sttsOf}
+use Rattle.stts.specs.declared.Found as stts-found
+use Rattle.stts.specs.declared.Found.the-variants as stts
+use Rattle.ctts.specs.Ctts.{cttsOf}
+use Rattle.ctts.specs.declared.Found as ctts-found
+use Rattle.ctts.specs.declared.Found.the-variants as ctts
+use Rattle.stsc.specs.Stsc.{stscOf}
+use Rattle.stsc.specs.declared.Found as stsc-found
+use Rattle.stsc.specs.declared.Found.the-variants as stsc
+use Rattle.stsz.specs.Stsz.{stszOf}
+use Rattle.stsz.specs.declared.Found as stsz-found
+use Rattle.stsz.specs.declared.Found.the-variants as stsz
+use Rattle.stco.specs.Stco.{stcoOf}
+use Rattle.stco.specs.declared.Found as stco-found
+use Rattle.stco.specs.declared.Found.the-variants as stco
+use Rattle.co64.specs.Co64.{co64Of}
+use Rattle.co64.specs.declared.Found as co64-found
+use Rattle.co64.specs.declared.Found.the-variants as co64
+use Rattle.stss.specs.Stss.{stssOf}
+use Rattle.stss.specs.declared.Found as stss-found
+use Rattle.stss.specs.declared.Found.the-variants as stss
+use Rattle.mfhd.specs.Mfhd.{mfhdOf}
+use Rattle.mfhd.specs.declared.Found as mfhd-found
+use Rattle.mfhd.specs.declared.Found.the-variants as mfhd
+use Rattle.tfhd.specs.Tfhd.{tfhdOf}
+use Rattle.tfhd.specs.declared.Found as tfhd-found
+use Rattle.tfhd.specs.declared.Found.the-variants as tfhd
+use Rattle.tfdt.specs.Tfdt.{tfdtOf}
+use Rattle.tfdt.specs.declared.Found as tfdt-found
+use Rattle.tfdt.specs.declared.Found.the-variants as tfdt
+use Rattle.trun.specs.Trun.{trunOf}
+use Rattle.trun.specs.declared.Found as trun-found
+use Rattle.trun.specs.declared.Found.the-variants as trun
 
 -- what each reader's answer refuses
 abbrev pub emsgFault : emsg-found.Found → Judged

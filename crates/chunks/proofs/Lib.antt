@@ -1,4 +1,0 @@
-pub mod StcoLaws
-mod Unique
-pub mod Co64Laws
-mod Vectors

@@ -1,2 +1,0 @@
-pub mod Stco
-pub mod Co64

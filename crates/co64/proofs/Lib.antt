@@ -1,0 +1,3 @@
+mod Unique
+pub mod Co64Laws
+mod Vectors

@@ -1,0 +1,3 @@
+mod Unique
+pub mod CttsLaws
+mod Vectors

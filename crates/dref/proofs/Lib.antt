@@ -1,0 +1,3 @@
+pub mod DrefLaws
+mod Unique
+mod Vectors

@@ -1,0 +1,83 @@
+use mathlib.Core.Path.{refl, sym}
+use Rattle.elst.proofs.Edits.{by-cells}
+use native.Mathlib.Omega.{arith}
+use lib.Seq.{length-take-le}
+use Rattle.numbers.specs.Field.{when}
+use Rattle.layout.specs.Rule.{ruleOf}
+use Rattle.layout.specs.Canonical.{most, limit}
+use Rattle.layout.proofs.Rests.{end-in}
+use Rattle.rounds.proofs.Boxes.{fits}
+use Rattle.rounds.proofs.JudgedBoxes.{judged-no, judged-is, judged-wrong}
+use Rattle.elst.specs.Elst.{kind, fields, from, judge}
+use Rattle.elst.specs.declared.Found.the-variants.{Is, Refused}
+use borrow.Author.Needs.{needs}
+use Rattle.elst.proofs.read.Statement.{statement}
+use Rattle.elst.proofs.read.Tie as tie
+
+by-requires : tie.Need-by-requires
+by-requires c κs = search needs
+
+returns : tie.Need-returns
+returns c = judged-no Is Refused from judge (c .before .before .before .before .args .part .now) _ _ (c .before .before .by .ensures) (c .if1 .taken)
+
+array-read-t37 : tie.Need-array-read-t37
+array-read-t37 c = search needs
+
+cast-t38 : tie.Need-cast-t38
+unfolding limit most ruleOf when
+cast-t38 c = omega (arith, fits kind fields (c .before .before .before .before .before .args .part .now) 0 1 _ (c .before .before .before .by .ensures) refl)
+
+array-read-t41 : tie.Need-array-read-t41
+array-read-t41 c = search needs
+
+cast-t42 : tie.Need-cast-t42
+unfolding limit most ruleOf when
+cast-t42 c = omega (arith, fits kind fields (c .before .before .before .before .before .args .part .now) 1 16777215 _ (c .before .before .before .by .ensures) refl)
+
+array-read-t45 : tie.Need-array-read-t45
+array-read-t45 c = search needs
+
+cast-t46 : tie.Need-cast-t46
+unfolding limit most ruleOf when
+cast-t46 c = omega (arith, fits kind fields (c .before .before .before .before .before .args .part .now) 2 4294967295 _ (c .before .before .before .by .ensures) refl)
+
+slice-aggregate-judge : tie.Need-slice-aggregate-judge
+slice-aggregate-judge c = sym (length-take-le _ (c .before .before .before .before .before .before .args .part .now) (end-in kind fields (c .before .before .before .before .before .before .args .part .now) _ (c .before .before .before .before .by .ensures)))
+
+cells-of-requires : tie.Need-cells-of-requires
+cells-of-requires c κs = search needs
+
+judge-requires : tie.Need-judge-requires
+judge-requires c κs = search needs
+
+enum-told : tie.Need-enum-told
+enum-told c = search needs
+
+enum-known-q : tie.Need-enum-known-q
+enum-known-q c = search needs
+
+returns-2 : tie.Need-returns-2
+returns-2 c = judged-is Is Refused from judge (c .before .before .before .before .before .before .before .before .before .before .args .part .now) _ _ (c .before .before .before .before .before .before .before .before .by .ensures) (c .before .before .before .before .before .before .if1 .left) _ (by-cells _ _ _ _ _ _ (c .before .before .judge .ensures) (c .before .before .before .cells-of .ensures)) (c .enum-told .given .1)
+
+returns-3 : tie.Need-returns-3
+returns-3 c = judged-wrong Is Refused from judge (c .before .before .before .before .before .before .before .before .before .before .before .args .part .now) _ _ (c .before .before .before .before .before .before .before .before .before .by .ensures) (c .before .before .before .before .before .before .before .if1 .left) _ (by-cells _ _ _ _ _ _ (c .before .before .before .judge .ensures) (c .before .before .before .before .cells-of .ensures)) _ (c .before .q .given .1)
+
+pub read-spec : {M : Type 1} → statement M
+read-spec =
+    tie.close
+    (tie.spec
+    by-requires
+    returns
+    array-read-t37
+    cast-t38
+    array-read-t41
+    cast-t42
+    array-read-t45
+    cast-t46
+    slice-aggregate-judge
+    cells-of-requires
+    judge-requires
+    enum-told
+    enum-known-q
+    returns-2
+    returns-3)

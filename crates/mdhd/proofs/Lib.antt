@@ -1,0 +1,3 @@
+pub mod MdhdLaws
+mod Unique
+mod Vectors

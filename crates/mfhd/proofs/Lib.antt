@@ -1,0 +1,3 @@
+pub mod MfhdLaws
+mod Vectors
+mod Unique

@@ -1,4 +1,0 @@
-pub mod MdhdLaws
-mod Unique
-pub mod TrexLaws
-mod Vectors

@@ -1,3 +1,0 @@
-// Boxes of the movie and its media, one module a box.
-pub mod mdhd;
-pub mod trex;

@@ -1,4 +1,0 @@
-pub mod DrefLaws
-pub mod UrlLaws
-mod Unique
-mod Vectors

@@ -1,2 +1,0 @@
-pub mod Dref
-pub mod Url

@@ -1,2 +1,0 @@
-pub mod dref;
-pub mod url;

@@ -1,4 +1,0 @@
-pub mod StssLaws
-mod Unique
-pub mod StscLaws
-mod Vectors

@@ -1,2 +1,0 @@
-pub mod Stss
-pub mod Stsc

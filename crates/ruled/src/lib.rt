@@ -1,2 +1,0 @@
-pub mod stsc;
-pub mod stss;

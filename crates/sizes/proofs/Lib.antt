@@ -1,4 +1,0 @@
-pub mod StszLaws
-mod Unique
-pub mod Listed
-mod Vectors

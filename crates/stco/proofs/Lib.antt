@@ -1,0 +1,3 @@
+pub mod StcoLaws
+mod Unique
+mod Vectors

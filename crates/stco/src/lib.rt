@@ -1,0 +1,104 @@
+// The chunk offsets (ISO/IEC 14496-12, 8.7.5) in 32 bits: a count, and as many offsets.
+ghost use mathlib.Core.Path.{_≡_};
+ghost use Rattle.put.specs.Put.{wrote};
+ghost use Rattle.stco.specs.Stco.{stcoOf, stcoIn, entryOf};
+use layout::Field;
+use layout::table::Cut;
+use numbers::Refusal;
+use numbers::U32;
+use put::Put;
+
+pub struct Stco {
+    pub version: u8,
+    pub flags: u32,
+    pub count: u32,
+}
+
+// The box, and where its entries begin.
+pub enum Found {
+    Is(Stco, usize),
+    Refused(Refusal),
+}
+
+pub const KIND: u32 = 0x7374636f;
+
+pub const ROW: [Field; 24] = [
+    Field::Version(0, 0),
+    Field::Flags,
+    Field::Number(4),
+    Field::Nothing,
+    Field::Nothing,
+    Field::Nothing,
+    Field::Nothing,
+    Field::Nothing,
+    Field::Nothing,
+    Field::Nothing,
+    Field::Nothing,
+    Field::Nothing,
+    Field::Nothing,
+    Field::Nothing,
+    Field::Nothing,
+    Field::Nothing,
+    Field::Nothing,
+    Field::Nothing,
+    Field::Nothing,
+    Field::Nothing,
+    Field::Nothing,
+    Field::Nothing,
+    Field::Nothing,
+    Field::Nothing,
+];
+
+pub fn read(part: &[u8]) -> Found
+    ensures { λ r. ⌜ r ≡ stcoOf (now (part .entry)) ⌝ }
+{
+    let got = layout::read::by(part, KIND, ROW);
+    if got.number != 0 {
+        return Found::Refused(Refusal {
+            number: got.number,
+            detail: got.place,
+        });
+    }
+    let v = got.values;
+    let place = got.place;
+    let end = got.end;
+    let stco = Stco {
+        version: v[0] as u8,
+        flags: v[1] as u32,
+        count: v[2] as u32,
+    };
+    let cells = v[2];
+    let cut = layout::table::first_cut(&part[..end], place, cells, 4);
+    match cut {
+        Cut::Whole => Found::Is(stco, place),
+        Cut::At(p) => Found::Refused(Refusal {
+            number: 1,
+            detail: p,
+        }),
+    }
+}
+
+// The entries are lent as the bytes that they have in the box; 13 where they are not as many as the count says.
+pub fn write(stco: Stco, entries: &[u8], out: &mut [u8]) -> Put
+    ensures { λ r. ⌜ wrote r (now (out .exit)) ≡ stcoIn stco (now (entries .entry)) (now (out .entry)) ⌝ }
+{
+    let size = stco.count as u64 * 4;
+    if entries.len() as u64 != size {
+        return Put::Refused(Refusal {
+            number: 13,
+            detail: 0,
+        });
+    }
+    let mut v = [0; 24];
+    v[0] = stco.version as u64;
+    v[1] = stco.flags as u64;
+    v[2] = stco.count as u64;
+    layout::write::by(out, KIND, ROW, v, entries)
+}
+
+// The i-th offset, counted from 0, of the bytes of the entries.
+pub fn entry(entries: &[u8], i: u32) -> U32
+    ensures { λ r. ⌜ r ≡ entryOf (now (entries .entry)) i ⌝ }
+{
+    numbers::u32_at(entries, (i as usize) * 4)
+}

@@ -1,0 +1,3 @@
+mod Unique
+pub mod StscLaws
+mod Vectors

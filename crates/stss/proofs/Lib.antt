@@ -1,0 +1,3 @@
+pub mod StssLaws
+mod Unique
+mod Vectors

@@ -1,0 +1,77 @@
+use Prim.Native.Nat.{_*_}
+use mathlib.Core.Path.{refl}
+use lib.ListN.{length}
+use Rattle.numbers.proofs.Chain.{is-eq, is-ne}
+use Rattle.rounds.proofs.JudgedBoxes.{settles, unsettles}
+use borrow.Author.Needs.{needs}
+use Rattle.stss.proofs.write.Statement.{statement}
+use Rattle.stss.proofs.write.Tie as tie
+
+cast-size : tie.Need-cast-size
+cast-size c = search needs
+
+mul-size : tie.Need-mul-size
+mul-size c = search needs
+
+returns : tie.Need-returns
+returns c = is-ne _ _ _ (length (c .before .before .before .before .args .entries .now)) (c .before .before .before .before .args .stss .count * 4) (c .if1 .taken) refl
+
+judge-requires : tie.Need-judge-requires
+judge-requires c κs = search needs
+
+enum-told : tie.Need-enum-told
+enum-told c = search needs
+
+enum-told-2 : tie.Need-enum-told-2
+enum-told-2 c = search needs
+
+returns-2 : tie.Need-returns-2
+returns-2 c = is-eq _ _ _ (length (c .before .before .before .before .before .before .before .args .entries .now)) (c .before .before .before .before .before .before .before .args .stss .count * 4) (c .before .before .before .if1 .left) (unsettles _ _ _ _ (c .before .before .judge .ensures) _ (c .enum-told2 .given .1) _ refl)
+
+cast-v : tie.Need-cast-v
+cast-v c = search needs
+
+array-write-v : tie.Need-array-write-v
+array-write-v c = search needs
+
+cast-v-2 : tie.Need-cast-v-2
+cast-v-2 c = search needs
+
+array-write-v-2 : tie.Need-array-write-v-2
+array-write-v-2 c = search needs
+
+cast-v-3 : tie.Need-cast-v-3
+cast-v-3 c = search needs
+
+array-write-v-3 : tie.Need-array-write-v-3
+array-write-v-3 c = search needs
+
+by-requires : tie.Need-by-requires
+by-requires c κs = search needs
+
+same-length : tie.Need-same-length
+same-length c = search needs
+
+returns-3 : tie.Need-returns-3
+returns-3 c = is-eq _ _ _ (length (c .before .before .before .before .before .before .before .before .before .before .before .before .before .before .args .entries .now)) (c .before .before .before .before .before .before .before .before .before .before .before .before .before .before .args .stss .count * 4) (c .before .before .before .before .before .before .before .before .before .before .if1 .left) (settles _ _ _ _ (c .before .before .before .before .before .before .before .before .before .judge .ensures) (c .before .before .before .before .before .before .before .enum-told .given .1) _ (c .before .before .by .ensures))
+
+pub write-spec : {M : Type 1} → statement M
+write-spec =
+    tie.close
+    (tie.spec
+    cast-size
+    mul-size
+    returns
+    judge-requires
+    enum-told
+    enum-told-2
+    returns-2
+    cast-v
+    array-write-v
+    cast-v-2
+    array-write-v-2
+    cast-v-3
+    array-write-v-3
+    by-requires
+    same-length
+    returns-3)

@@ -1,0 +1,4 @@
+pub mod StszLaws
+mod Unique
+pub mod Sizes
+mod Vectors

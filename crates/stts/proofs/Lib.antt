@@ -1,0 +1,3 @@
+pub mod SttsLaws
+mod Unique
+mod Vectors

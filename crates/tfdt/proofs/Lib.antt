@@ -1,0 +1,3 @@
+mod Vectors
+mod Unique
+pub mod TfdtLaws

@@ -1,4 +1,0 @@
-pub mod SttsLaws
-mod Unique
-pub mod CttsLaws
-mod Vectors

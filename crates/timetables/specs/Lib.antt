@@ -1,2 +1,0 @@
-pub mod Stts
-pub mod Ctts

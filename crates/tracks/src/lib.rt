@@ -1,2 +1,0 @@
-// Boxes of a track, one module a box.
-pub mod tkhd;

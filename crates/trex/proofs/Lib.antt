@@ -1,0 +1,3 @@
+mod Unique
+pub mod TrexLaws
+mod Vectors

@@ -1,0 +1,3 @@
+pub mod UrlLaws
+mod Unique
+mod Vectors
