@@ -22,24 +22,26 @@ def signed(value, width):
     return value - (1 << 8 * width) if value >> 8 * width - 1 else value
 
 
-def header(data):
-    """Where the content begins and where the box ends; A5 has the order of the faults. Size 0 reaches to the end."""
-    if len(data) < 4:
-        raise Refused(1, 0)
-    size, head = number(data, 0, 4), 8
+def header(data, at=0, end=None, top=True):
+    """Where the content of the box at `at` begins and where the box ends, in a parent that ends at `end`; A5 has the
+    order of the faults. At the top size 0 reaches to the end."""
+    left = (len(data) if end is None else end) - at
+    if left < 4:
+        raise Refused(1, at)
+    size, head = number(data, at, 4), 8
     if size == 1:
-        size, head = number(data, 8, 8) if len(data) >= 16 else None, 16  # None: not known yet
-    elif size == 0:
-        size = len(data) if len(data) >= 8 else None  # a cut type is judged below
-    if size is not None and size > len(data):
-        raise Refused(1, 0)
+        size, head = number(data, at + 8, 8) if left >= 16 else None, 16  # None: not known yet
+    elif size == 0 and top:
+        size = left if left >= 8 else None  # a cut type is judged below
+    if size is not None and size > left:
+        raise Refused(1, at)
     if size is not None and size < head:
-        raise Refused(2, 0)
-    if len(data) < 8:
-        raise Refused(1, 4)
-    if len(data) < head:
-        raise Refused(1, 8)
-    return head, size
+        raise Refused(2, at)
+    if left < 8:
+        raise Refused(1, at + 4)
+    if left < head:
+        raise Refused(1, at + 8)
+    return at + head, at + size
 
 
 class Box:
@@ -213,6 +215,38 @@ def trex(box):  # 8.8.3
         box.field(4)
 
 
+def holder(box, *kinds):
+    """A box of boxes: where the first of each of these types begins, 0 where there is none. All is written again."""
+    first = {}
+    content = at = box.at
+    while at < box.end:
+        _, after = header(box.data, at, box.end, top=False)
+        first.setdefault(box.data[at + 4:at + 8], at)
+        at = after
+    box.words += [first.get(kind, 0) for kind in kinds]
+    box.made += box.data[content:box.end]
+
+
+def edts(box):  # 8.6.5
+    holder(box, b"elst")
+
+
+def dinf(box):  # 8.7.1
+    holder(box, b"dref")
+
+
+def mvex(box):  # 8.8.1
+    holder(box, b"trex")
+
+
+def moof(box):  # 8.8.4
+    holder(box, b"mfhd", b"traf")
+
+
+def traf(box):  # 8.8.6
+    holder(box, b"tfhd", b"tfdt", b"trun")
+
+
 def mfhd(box):  # 8.8.5
     box.full(0)
     box.field(4)
@@ -269,7 +303,8 @@ def stsd(box):  # 8.5.2
 
 
 READERS = {reader.__name__.ljust(4).encode(): reader for reader in (
-    tkhd, mdhd, hdlr, elst, stts, ctts, stsc, stss, stsz, stco, co64, url, trex, mfhd, tfhd, tfdt, trun, emsg, dref, stsd)}
+    tkhd, mdhd, hdlr, elst, stts, ctts, stsc, stss, stsz, stco, co64, url, trex, mfhd, tfhd, tfdt, trun, emsg, dref, stsd,
+    edts, dinf, mvex, moof, traf)}
 
 
 # THE LINES

@@ -144,7 +144,7 @@ def ordered_content(kind):
     elif kind == "trun":
         for version in VERSIONS[:3]:
             for flags in sums(TRUN_FLAGS):
-                for count in (0, 1, 2):
+                for count in (2, 1, 0):
                     yield trun(version, flags, 100, 0x2000000, [(1, 2, 3, 4), (5, 6, 7, -8)][:count])
                 yield trun(version, flags, -100, 0, [(1, 2, 3, 4)], 2)
         for version in (0, 1):
@@ -239,14 +239,20 @@ def by_chance(kind, rnd):
 # THE BOXES
 
 def lengths(kind, content):
-    """A box at every length: cut there, stated and cut there, stated there with its bytes behind it; and sizes that
-    say more, nothing (0), too little, or it in 64 bits."""
+    """A box at every length around the ends of its fields: cut there, stated and cut there, stated there with its
+    bytes behind it."""
     whole = box(kind, content)
     for length in range(len(whole)):
-        yield whole[:length]
-        if length >= 8:
-            yield u(4, length) + whole[4:length]
-            yield u(4, length) + whole[4:]
+        if len(whole) < 24 or length % 4 != 2:
+            yield whole[:length]
+            if length >= 8:
+                yield u(4, length) + whole[4:length]
+                yield u(4, length) + whole[4:]
+
+
+def sizes(kind, content):
+    """A box whose header says more, nothing (0), too little, or its size in 64 bits; and bytes behind its fields."""
+    whole = box(kind, content)
     for size in (*range(8), len(whole) + 1, len(whole) + 8, 0xFFFFFFFF):
         yield u(4, size) + whole[4:]
     for extra in (1, 3, 4, 8):
@@ -260,16 +266,20 @@ def lengths(kind, content):
 
 def ordered(kind):
     contents = list(ordered_content(kind))
-    for content in contents:
+    for i, content in enumerate(contents):
         yield box(kind, content)
-        yield large(kind, content)
-    # every length of one box of each length that a sound box has
+        if i % 4 == 0:
+            yield large(kind, content)
+    # every length of one box of each version and length; of tfhd and trun of one box of each set of flags
     seen = set()
-    for content in contents:
-        shape = (len(content), content[:4] if kind in ("tfhd", "trun") else content[:1])
+    for i, content in enumerate(contents):
+        flags = kind in ("tfhd", "trun")
+        shape = content[1:4] if flags else (len(content), content[:1])
         if len(content) < 80 and shape not in seen:
             seen.add(shape)
             yield from lengths(kind, content)
+            if not flags or len(seen) % 8 == 1:
+                yield from sizes(kind, content)
 
 
 def damaged(kind, sound, rnd):
@@ -320,7 +330,7 @@ def made(count, seed):
         else:
             content = by_chance(kind, rnd)
             base = large(kind, content) if rnd.random() < .05 else box(kind, content)
-        data = base if rnd.random() < .2 else damaged(kind, base, rnd)
+        data = base if rnd.random() < .4 else damaged(kind, base, rnd)
         slow += hangs(kind, data)
         if (kind, data) not in known and not (hangs(kind, data) and slow > 6):
             known.add((kind, data))
@@ -360,8 +370,14 @@ def packs(data):
     yield pack
 
 
-def our_answers(program, data):
-    """The lines of the program, each the same as that of expected/boxes.py."""
+def our_answers(program, cases):
+    """For each box its answer: from the lines of the program, each the same as that of expected/boxes.py."""
+    found = [list(rust.parts(kind, data)) for kind, data in cases]
+    told = iter(lines_of(program, [part for parts in found for _, part in parts]))
+    return [rust.answer(kind, parts, [next(told) for _ in parts]) for (kind, _), parts in zip(cases, found)]
+
+
+def lines_of(program, data):
     lines = [boxes.line(one) for one in data]
     if program is None:
         return lines
@@ -381,9 +397,9 @@ def our_answers(program, data):
     return told
 
 
-def compared(cases, lines, answers):
+def compared(cases, ours, answers):
     """For each box its classes; prints how often each was met and every difference of no class."""
-    found = [rust.classes(kind, data, line, *answer) for (kind, data), line, answer in zip(cases, lines, answers)]
+    found = [rust.classes(kind, data, mine, rust.Rust(*answer)) for (kind, data), mine, answer in zip(cases, ours, answers)]
     count = collections.Counter(kind for kind, _ in cases)
     alike = collections.Counter(kind for (kind, _), numbers in zip(cases, found) if not numbers)
     both = collections.Counter(kind for (kind, _), answer, numbers in zip(cases, answers, found)
@@ -401,12 +417,12 @@ def compared(cases, lines, answers):
     for number in sorted(met):
         print(f"  difference {number}: {met[number]} boxes, smallest {least[number].hex()}")
     strange = 0
-    for (kind, data), line, answer, numbers in zip(cases, lines, answers, found):
+    for (kind, data), answer, numbers in zip(cases, answers, found):
         for number in numbers:
             if not isinstance(number, int):
                 strange += 1
                 if strange <= 40:
-                    print(f"NEW: {kind} {data.hex()[:400]}\n  {number[:300]}\n  ours: {line[:300]}\n  rust: {answer[0][:300]}\n  copy: {answer[1][:300]}")
+                    print(f"NEW: {kind} {data.hex()}\n  {number}\n  ours: {boxes.line(data)}\n  read: {answer[0]}\n  copy: {answer[1]}")
     print(f"{strange} differences of no class")
     return found, strange
 
@@ -416,8 +432,7 @@ def main():
     program = sys.argv[4] if len(sys.argv) > 4 else None
     cases = made(count, seed)
     answers = rust_answers(oracle, cases)
-    lines = our_answers(program, [data for _, data in cases])
-    sys.exit(1 if compared(cases, lines, answers)[1] else 0)
+    sys.exit(1 if compared(cases, our_answers(program, cases), answers)[1] else 0)
 
 
 if __name__ == "__main__":
