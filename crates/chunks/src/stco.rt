@@ -20,9 +20,9 @@ pub enum Found {
     Refused(Refusal),
 }
 
-const KIND: u32 = 0x7374636f;
+pub const KIND: u32 = 0x7374636f;
 
-const ROW: [Field; 24] = [
+pub const ROW: [Field; 24] = [
     Field::Version(0, 0),
     Field::Flags,
     Field::Number(4),

@@ -29,9 +29,9 @@ pub enum Found {
     Refused(Refusal),
 }
 
-const KIND: u32 = 0x656c7374;
+pub const KIND: u32 = 0x656c7374;
 
-const ROW: [Field; 24] = [
+pub const ROW: [Field; 24] = [
     Field::Version(0, 1),
     Field::Flags,
     Field::Number(4),

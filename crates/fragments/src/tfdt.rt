@@ -17,9 +17,9 @@ pub enum Found {
     Refused(Refusal),
 }
 
-const KIND: u32 = 0x74666474;
+pub const KIND: u32 = 0x74666474;
 
-const ROW: [Field; 24] = [
+pub const ROW: [Field; 24] = [
     Field::Version(0, 1),
     Field::Flags,
     Field::Wide(4, 8),

@@ -22,9 +22,9 @@ pub enum Found {
     Refused(Refusal),
 }
 
-const KIND: u32 = 0x74666864;
+pub const KIND: u32 = 0x74666864;
 
-const ROW: [Field; 24] = [
+pub const ROW: [Field; 24] = [
     Field::Version(0, 0),
     Field::Flags,
     Field::Least(4, 1),

@@ -18,9 +18,9 @@ pub enum Found {
     Refused(Refusal),
 }
 
-const KIND: u32 = 0x68646c72;
+pub const KIND: u32 = 0x68646c72;
 
-const ROW: [Field; 24] = [
+pub const ROW: [Field; 24] = [
     Field::Version(0, 0),
     Field::Flags,
     Field::Reserved(4, 0),
@@ -69,13 +69,7 @@ pub fn read(part: &[u8]) -> Found
 pub fn name(part: &[u8]) -> &[u8]
     ensures { λ r. ⌜ now r ≡ nameOf (now (part .entry)) ⌝ }
 {
-    let got = layout::read::by(part, KIND, ROW);
-    let place = got.place;
-    let end = got.end;
-    if end <= place {
-        return &part[..0];
-    }
-    &part[place..end]
+    layout::read::rest(part, KIND, ROW)
 }
 
 pub fn write(hdlr: Hdlr, name: &[u8], out: &mut [u8]) -> Put

@@ -145,7 +145,7 @@ all-laid layout xs i k v fl bs n e =
     ∙ sym (ap (λ l. codedOf bs n (encode l xs k v fl)) (ap (λ n. drop n layout) e ∙ drop-length layout))
 
 -- no value in its range is too wide for its field
-range : (f : Field) (v fl : ℕ) → ruleOf f v fl .high < 256 ^ ruleOf f v fl .width
+pub range : (f : Field) (v fl : ℕ) → ruleOf f v fl .high < 256 ^ ruleOf f v fl .width
 unfolding ruleOf
 range (Number w) v fl = omega (arith, pow-pos (min w 8))
 range (Reserved w c) v fl = omega (arith, pow-pos (min w 8))

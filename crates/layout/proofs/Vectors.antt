@@ -9,9 +9,9 @@ use Rattle.numbers.specs.Field.{refusal, field, when}
 use Rattle.put.specs.Put.{wrote}
 use Rattle.put.specs.declared.Put.the-variants as put
 use Rattle.layout.specs.Rule.{ruleOf}
-use Rattle.layout.specs.Read.{one, decode, readOf, faultyOf}
+use Rattle.layout.specs.Read.{one, decode, readOf, restOf, faultyOf}
 use Rattle.layout.specs.Write.{lay, encode, writeOf, padded, slotted}
-use Rattle.layout.specs.Canonical.{standard, slots, most, limit}
+use Rattle.layout.specs.Canonical.{standard, exact, canonicalOf, slots, most, limit}
 use Rattle.layout.specs.Table.{cutOf}
 use Rattle.layout.specs.declared.Field.{Field}
 use Rattle.layout.specs.declared.Field.the-variants.{Number, Reserved, Wide, Optional, Least, Version, Flags}
@@ -61,6 +61,23 @@ write-tail : writeOf kind (padded (Number 1 ∷ [])) (slotted (5 ∷ [])) (bytes
 unfolding bytes when ruleOf lay encode
 write-tail = refl
 
+-- what lies behind the fields ends where the box does, also where the bytes go on
+abbrev tailed : List ℕ
+tailed = box (bytes 1 5 ++ bytes 2 258) ++ bytes 1 9
+
+read-rest : restOf (readOf kind (padded (Number 1 ∷ [])) tailed) tailed ≡ 1 ∷ 2 ∷ []
+unfolding be bytes field when ruleOf one decode
+read-rest = refl
+
+-- there may be nothing, and there is nothing in a box that is refused
+empty-rest : restOf (readOf kind (padded (Number 3 ∷ [])) tailed) tailed ≡ []
+unfolding be bytes field when ruleOf one decode
+empty-rest = refl
+
+refused-rest : restOf (readOf kind (padded (Number 4 ∷ [])) tailed) tailed ≡ []
+unfolding be bytes field when ruleOf one decode
+refused-rest = refl
+
 -- the first fault, field by field: 7 for the version, 8 for a value, 1 for what is cut; another type is 8 at 4
 bad-version : readOf kind row (box (bytes 1 2)) ≡ faultyOf 7 8
 unfolding be bytes field when ruleOf one decode
@@ -90,6 +107,63 @@ own-reserved = refl
 other-reserved : standard row (box (bytes 1 0 ++ bytes 3 1 ++ bytes 4 5 ++ bytes 2 4 ++ bytes 1 7 ++ bytes 2 8)) 8 0 0 ≡ false
 unfolding be bytes field when ruleOf standard
 other-reserved = refl
+
+-- canonical: as we write it, with as many bytes behind the fields as are asked for
+canonical-wide : canonicalOf kind row 0 wide ≡ true
+unfolding be bytes field when ruleOf one decode standard exact
+canonical-wide = refl
+
+canonical-tail : canonicalOf kind (padded (Number 1 ∷ [])) 2 (box (bytes 1 5 ++ bytes 2 258)) ≡ true
+unfolding be bytes field when ruleOf one decode standard exact
+canonical-tail = refl
+
+-- not canonical: the size in 8 bytes, and 0 for what goes to the end
+long-size : canonicalOf kind (padded (Number 1 ∷ [])) 0 (bytes 4 1 ++ bytes 4 kind ++ bytes 8 17 ++ bytes 1 5) ≡ false
+unfolding be bytes field when ruleOf one decode standard exact
+long-size = refl
+
+open-size : canonicalOf kind (padded (Number 1 ∷ [])) 0 (bytes 4 0 ++ bytes 4 kind ++ bytes 1 5) ≡ false
+unfolding be bytes field when ruleOf one decode standard exact
+open-size = refl
+
+-- a byte behind the fields, in the box or behind it; one too few
+trailing-byte : canonicalOf kind (padded (Number 1 ∷ [])) 0 (box (bytes 1 5 ++ bytes 1 0)) ≡ false
+unfolding be bytes field when ruleOf one decode standard exact
+trailing-byte = refl
+
+byte-behind : canonicalOf kind (padded (Number 1 ∷ [])) 0 (box (bytes 1 5) ++ bytes 1 0) ≡ false
+unfolding be bytes field when ruleOf one decode standard exact
+byte-behind = refl
+
+byte-missing : canonicalOf kind (padded (Number 1 ∷ [])) 2 (box (bytes 1 5 ++ bytes 1 0)) ≡ false
+unfolding be bytes field when ruleOf one decode standard exact
+byte-missing = refl
+
+-- a reserved field with another value, which is read all the same
+reserved-value : canonicalOf kind row 0 (box (bytes 1 0 ++ bytes 3 1 ++ bytes 4 5 ++ bytes 2 4 ++ bytes 1 7 ++ bytes 2 8)) ≡ false
+unfolding be bytes field when ruleOf one decode standard exact
+reserved-value = refl
+
+-- what is refused: a version, a value, a field that is cut, another type, a header that is cut
+refused-version : canonicalOf kind row 0 (box (bytes 1 2 ++ bytes 3 1 ++ bytes 4 5 ++ bytes 2 3 ++ bytes 1 7 ++ bytes 2 8)) ≡ false
+unfolding be bytes field when ruleOf one decode standard exact
+refused-version = refl
+
+refused-value : canonicalOf kind row 0 (box (bytes 1 0 ++ bytes 3 1 ++ bytes 4 5 ++ bytes 2 3 ++ bytes 1 0 ++ bytes 2 8)) ≡ false
+unfolding be bytes field when ruleOf one decode standard exact
+refused-value = refl
+
+refused-cut : canonicalOf kind row 0 (box (bytes 1 0 ++ bytes 3 1 ++ bytes 4 5 ++ bytes 2 3 ++ bytes 1 7 ++ bytes 1 8)) ≡ false
+unfolding be bytes field when ruleOf one decode standard exact
+refused-cut = refl
+
+refused-type : canonicalOf 0x61626365 row 0 wide ≡ false
+unfolding be bytes field when ruleOf one decode standard exact
+refused-type = refl
+
+refused-header : canonicalOf kind row 0 (bytes 4 7 ++ bytes 3 1) ≡ false
+unfolding be bytes field when ruleOf one decode standard exact
+refused-header = refl
 
 -- slots, and the largest value in one
 six : slots row ≡ 6

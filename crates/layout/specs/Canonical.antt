@@ -4,13 +4,14 @@ use mathlib.Core.Path.{_≡_}
 use mathlib.Core.List.{List, [], _∷_}
 use mathlib.Core.Bool.{Bool, true, false}
 use lib.ListN.{length, getD}
-use lib.Dec.{eqb}
+use lib.Dec.{eqb, ltb}
 use Rattle.numbers.specs.Number.{be}
-use Rattle.numbers.specs.Field.{when}
+use Rattle.numbers.specs.Field.{when, field}
 use Rattle.layout.specs.Rule.{ruleOf, versionAfter, flagsAfter}
-use Rattle.layout.specs.Read.{Got, got, decode}
+use Rattle.layout.specs.Read.{Got, got, fault, decode}
 use Rattle.layout.specs.declared.Field.{Field}
 use Rattle.layout.specs.declared.Field.the-variants.{Number, Reserved, Wide, Optional, Least, Version, Flags, Nothing}
+use Rattle.layout.specs.declared.rule.Rule.{Rule}
 
 -- each reserved field from `at` on has its own value
 unfoldable pub standard : List Field → List ℕ → ℕ → ℕ → ℕ → Bool
@@ -21,8 +22,27 @@ standard (f ∷ fs) b at v fl =
     let s = standard fs b (at + r .width) (versionAfter r x v) (flagsAfter r x fl) in
     when (r .kept) s (when (eqb x (r .fixed)) s false)
 
--- b is a box of this type as we write it: its size is its length, its fields are read, the reserved ones have their
--- values, and n bytes follow them
+-- what we write in one field: its range, and its own value where it has one
+abbrev pub ours : Rule → ℕ → Bool
+ours r x = when (ltb x (r .low)) false (when (ltb (r .high) x) false (when (r .kept) true (eqb x (r .fixed))))
+
+-- n bytes follow the fields
+abbrev pub followed : ℕ → List ℕ → Got → Bool
+followed n b (got xs e) = eqb (e + n) (length b)
+followed n b (fault k p) = false
+
+-- the fields from `at` on are as we write them: each is read, the reserved ones have their values, and n bytes follow
+unfoldable pub exact : List Field → ℕ → List ℕ → ℕ → ℕ → ℕ → Bool
+exact fs n b at v fl = when (standard fs b at v fl) (followed n b (decode fs b at v fl)) false
+
+-- whether b is a box of this type as we write it, size and type in 4 bytes each
+abbrev pub canonicalOf : ℕ → List Field → ℕ → List ℕ → Bool
+canonicalOf kind fs n b =
+    field (λ q. false) 4 b 0 (λ size. when (eqb size (length b))
+    (field (λ q. false) 4 b 4 (λ type. when (eqb type kind) (exact fs n b 8 0 0) false)) false)
+
+-- the same as a statement, of bytes: the size is the length, the fields are read, the reserved ones have their values,
+-- and n bytes follow them
 pub record Canonical (kind : ℕ) (fs : List Field) (n : ℕ) (b : List ℕ) : Type 0 where
   pub byte : (i : ℕ) → getD b i 0 < 256
   pub size : be 4 b 0 ≡ length b

@@ -1,4 +1,5 @@
 // A box as a row of fields: one reader and one writer for any row.
+pub mod canonical;
 pub mod read;
 pub mod rule;
 pub mod table;

@@ -2,7 +2,7 @@
 ghost use mathlib.Core.Path.{_≡_};
 ghost use Prim.Native.Nat.{_≤_};
 ghost use lib.ListN.{length};
-ghost use Rattle.layout.specs.Read.{zeros, faultyOf, fieldsOf, decode, readOf};
+ghost use Rattle.layout.specs.Read.{zeros, faultyOf, fieldsOf, decode, readOf, restOf};
 use crate::Field;
 use crate::rule;
 use boxes::header;
@@ -88,4 +88,18 @@ pub fn by(b: &[u8], kind: u32, row: [Field; 24]) -> Fields
             faulty(8, 4)
         }
     }
+}
+
+// What lies behind the fields, up to the box's end, as the part of the lent bytes where it lies; no bytes where the box
+// is refused.
+pub fn rest(b: &[u8], kind: u32, row: [Field; 24]) -> &[u8]
+    ensures { λ r. ⌜ now r ≡ restOf (readOf kind row (now (b .entry))) (now (b .entry)) ⌝ }
+{
+    let got = by(b, kind, row);
+    let place = got.place;
+    let end = got.end;
+    if end <= place {
+        return &b[..0];
+    }
+    &b[place..end]
 }

@@ -21,9 +21,9 @@ pub enum Found {
     Refused(Refusal),
 }
 
-const KIND: u32 = 0x6d646864;
+pub const KIND: u32 = 0x6d646864;
 
-const ROW: [Field; 24] = [
+pub const ROW: [Field; 24] = [
     Field::Version(0, 1),
     Field::Flags,
     Field::Wide(4, 8),

@@ -21,9 +21,9 @@ pub enum Found {
     Refused(Refusal),
 }
 
-const KIND: u32 = 0x74726578;
+pub const KIND: u32 = 0x74726578;
 
-const ROW: [Field; 24] = [
+pub const ROW: [Field; 24] = [
     Field::Version(0, 0),
     Field::Flags,
     Field::Least(4, 1),

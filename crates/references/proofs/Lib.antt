@@ -1,3 +1,4 @@
+pub mod DrefLaws
 pub mod UrlLaws
 mod Unique
 mod Vectors

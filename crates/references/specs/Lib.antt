@@ -1,1 +1,2 @@
+pub mod Dref
 pub mod Url

@@ -1,1 +1,2 @@
+pub mod dref;
 pub mod url;

@@ -17,9 +17,9 @@ pub enum Found {
     Refused(Refusal),
 }
 
-const KIND: u32 = 0x75726c20;
+pub const KIND: u32 = 0x75726c20;
 
-const ROW: [Field; 24] = [
+pub const ROW: [Field; 24] = [
     Field::Version(0, 0),
     Field::Flags,
     Field::Nothing,
@@ -67,13 +67,7 @@ pub fn read(part: &[u8]) -> Found
 pub fn location(part: &[u8]) -> &[u8]
     ensures { λ r. ⌜ now r ≡ locationOf (now (part .entry)) ⌝ }
 {
-    let got = layout::read::by(part, KIND, ROW);
-    let place = got.place;
-    let end = got.end;
-    if end <= place {
-        return &part[..0];
-    }
-    &part[place..end]
+    layout::read::rest(part, KIND, ROW)
 }
 
 pub fn write(url: Url, location: &[u8], out: &mut [u8]) -> Put

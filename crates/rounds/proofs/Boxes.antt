@@ -4,9 +4,9 @@ use mathlib.Core.Logic.{_⊎_, inl, inr, ⊎-elim}
 use mathlib.Core.List.{List, [], _∷_, _++_, append-assoc, append-nil}
 use mathlib.Core.Bool.{Bool, true, false}
 use Prim.Native.Nat.{ℕ, zero, suc, _+_, _*_, _-_, _/_, _%_, _^_, _≤_, _<_, min, max}
-use native.Mathlib.Nat.{add-zero, zero-add, mod-eq-of-lt}
+use native.Mathlib.Nat.{add-zero, zero-add, mod-eq-of-lt, mod-lt}
 use native.Mathlib.Omega.{arith}
-use lib.ListN.{length, length-take, getD, drop, take, set, length-append, length-set, length-replicate, take-append-drop}
+use lib.ListN.{length, getD, drop, take, set, length-append, length-set, length-replicate, take-append-drop}
 use lib.Seq.{length-take-le, take-at, drop-at, take-length, drop-length, sets, length-sets, getD-set-same, getD-set-other, set-out}
 use lib.Dec.{ltb, leb, eqb}
 use borrow.Author.Tests.{lt-ltb, le-ltb, ltb-true, ltb-false, eqb-true, eqb-false, eq-eqb, ne-eqb}
@@ -28,6 +28,7 @@ use Rattle.layout.specs.declared.Field.{Field}
 use Rattle.layout.specs.declared.Field.the-variants.{Number, Reserved, Wide, Optional, Least, Version, Flags, Nothing}
 use Rattle.layout.specs.declared.rule.Rule.{Rule}
 use Rattle.layout.specs.declared.read.Fields.{Fields}
+use Rattle.layout.proofs.Rests.{either}
 use Rattle.layout.proofs.Writes.{length-full}
 use Rattle.rounds.proofs.Round.{grown, back, forth, kept-same, one-got, keep-got}
 
@@ -77,8 +78,20 @@ opens kind fs b vs e h k s d =
     ap (λ l. fieldsOf (length l) (zeros 24) 0 (decode fs l 8 0 0)) (take-length b) ∙ ap (fieldsOf (length b) (zeros 24) 0) d in
     ap (headed kind fs b) (sym r) ∙ sym (is-eq _ _ _ kind kind refl (sym same))
 
--- a box that was written
-placed-done : (kind : ℕ) (tail buf : List ℕ) (m : Made) (n : ℕ) (out : List ℕ) → placed kind tail buf m ≡ wrote (Done n) out →
+-- bytes, joined and made
+pub joined : (a b : List ℕ) → Bytes a → Bytes b → Bytes (a ++ b)
+joined [] b h g i = g i
+joined (x ∷ a) b h g zero = h zero
+joined (x ∷ a) b h g (suc i) = joined a b (λ j. h (suc j)) g i
+
+pub are-bytes : (w n : ℕ) → Bytes (bytes w n)
+unfolding bytes
+are-bytes zero n i = omega arith
+are-bytes (suc w) n zero = mod-lt (n / 256 ^ w) (omega arith)
+are-bytes (suc w) n (suc i) = are-bytes w n i
+
+-- a box that was written, by its answer
+pub placed-done : (kind : ℕ) (tail buf : List ℕ) (m : Made) (n : ℕ) (out : List ℕ) → placed kind tail buf m ≡ wrote (Done n) out →
     (cs : List ℕ) × (m ≡ made cs) × (n ≡ length (full kind cs tail)) × (out ≡ full kind cs tail ++ drop (length (full kind cs tail)) buf) × (length (full kind cs tail) ≤ 4294967295)
 unfolding when
 placed-done kind tail buf bad n out e = let z : _≡_ {A = ℕ} 0 1 = cc in absurd (omega arith)
@@ -94,31 +107,60 @@ placed-done kind tail buf (made cs) n out e = by (ltb 4294967295 (length a)) (lt
     by false true ep eq e = let z : _≡_ {A = ℕ} 0 1 = cc in absurd (omega arith)
     by false false ep eq e = (cs, refl, let q : n ≡ length a = cc in q, let q : out ≡ a ++ drop (length a) buf = cc in q, ltb-false 4294967295 (length a) ep)
 
+-- b is a box that was written: a header of 8 bytes with its size and type, the fields' bytes, the tail
+pub record Written (kind : ℕ) (fs : List Field) (xs tail b : List ℕ) : Type 0 where
+  pub head : List ℕ
+  pub fields : List ℕ
+  pub eight : length head ≡ 8
+  pub coded : encode fs xs 0 0 0 ≡ made fields
+  pub shape : b ≡ head ++ (fields ++ tail)
+  pub long : length b ≡ 8 + length fields + length tail
+  pub size : be 4 b 0 ≡ length b
+  pub type : be 4 b 4 ≡ kind
+  pub byte : Bytes head
+
+pub written-box : (kind : ℕ) (fs : List Field) (xs tail buf : List ℕ) (n : ℕ) (out : List ℕ) → kind < 4294967296 → writeOf kind fs xs tail buf ≡ wrote (Done n) out →
+    Written kind fs xs tail (take n out)
+written-box kind fs xs tail buf n out hk w =
+    let p = placed-done kind tail buf (encode fs xs 0 0 0) n out w in
+    let cs = p .0 in
+    let total = 8 + length cs + length tail in
+    let a = full kind cs tail in
+    let l4 : length (bytes 4 total) ≡ 4 = length-bytes 4 total in
+    let la : length a ≡ total = length-full kind cs tail in
+    let t : take n out ≡ a = ap₂ (λ (n : ℕ) (o : List ℕ). take n o) (p .2) (p .3) ∙ take-at a (drop (length a) buf) (length a) refl in
+    let s : a ≡ bytes 4 total ++ (bytes 4 kind ++ (cs ++ tail)) = simp append-assoc in
+    let z : be 4 a 0 ≡ total = ap (λ b. be 4 b 0) s ∙ be-bytes 4 total [] (bytes 4 kind ++ (cs ++ tail)) ∙ mod-eq-of-lt (omega (arith, p .4)) in
+    let k : be 4 a 4 ≡ kind = ap₂ (λ (b : List ℕ) (n : ℕ). be 4 b n) s (sym l4) ∙ be-bytes 4 kind (bytes 4 total) (cs ++ tail) ∙ mod-eq-of-lt hk in
+    subst (Written kind fs xs tail) (sym t)
+    (record {
+      head = bytes 4 total ++ bytes 4 kind;
+      fields = cs;
+      eight = length-append (bytes 4 total) (bytes 4 kind) ∙ ap₂ (λ (m n : ℕ). m + n) l4 (length-bytes 4 kind);
+      coded = p .1;
+      shape = simp append-assoc;
+      long = la;
+      size = z ∙ sym la;
+      type = k;
+      byte = joined (bytes 4 total) (bytes 4 kind) (are-bytes 4 total) (are-bytes 4 kind);
+    })
+
 -- WHAT IS WRITTEN READS BACK THE SAME: the values, and the tail after them
 pub reads-back : (kind : ℕ) (fs : List Field) (xs tail buf : List ℕ) (n : ℕ) (out : List ℕ) → kind < 4294967296 → writeOf kind fs xs tail buf ≡ wrote (Done n) out →
     (e : ℕ) × (readOf kind fs (take n out) ≡ fieldsIn (length (take n out)) e (firsts (slots fs) 0 xs)) × (drop e (take n out) ≡ tail) × (e + length tail ≡ length (take n out))
 reads-back kind fs xs tail buf n out hk w =
-    let p = placed-done kind tail buf (encode fs xs 0 0 0) n out w in
-    let cs = p .0 in
-    let size = 8 + length cs + length tail in
-    let a = full kind cs tail in
-    let pre = bytes 4 size ++ bytes 4 kind in
-    let l4 : length (bytes 4 size) ≡ 4 = length-bytes 4 size in
-    let l8 : length pre ≡ 8 = length-append (bytes 4 size) (bytes 4 kind) ∙ ap₂ (λ (m n : ℕ). m + n) l4 (length-bytes 4 kind) in
-    let la : length a ≡ size = length-full kind cs tail in
-    let t : take n out ≡ a = ap₂ (λ (n : ℕ) (o : List ℕ). take n o) (p .2) (p .3) ∙ take-at a (drop (length a) buf) (length a) refl in
-    let s1 : a ≡ pre ++ (cs ++ tail) = simp append-assoc in
-    let s2 : a ≡ bytes 4 size ++ (bytes 4 kind ++ (cs ++ tail)) = simp append-assoc in
-    let s3 : a ≡ (pre ++ cs) ++ tail = refl in
-    let lc : length (pre ++ cs) ≡ 8 + length cs = length-append pre cs ∙ ap (λ n. n + length cs) l8 in
-    let d : decode fs a 8 0 0 ≡ got (firsts (slots fs) 0 xs) (8 + length cs) =
-    ap₂ (λ (b : List ℕ) (n : ℕ). decode fs b n 0 0) s1 (sym l8) ∙ back fs xs 0 0 0 cs (p .1) pre tail ∙ ap (λ n. got (firsts (slots fs) 0 xs) (n + length cs)) l8 in
-    let k : be 4 a 4 ≡ kind = ap₂ (λ (b : List ℕ) (n : ℕ). be 4 b n) s2 (sym l4) ∙ be-bytes 4 kind (bytes 4 size) (cs ++ tail) ∙ mod-eq-of-lt hk in
-    let z : be 4 a 0 ≡ size = ap (λ b. be 4 b 0) s2 ∙ be-bytes 4 size [] (bytes 4 kind ++ (cs ++ tail)) ∙ mod-eq-of-lt (omega (arith, p .4)) in (
-      8 + length cs,
-      ap (readOf kind fs) t ∙ opens kind fs a (firsts (slots fs) 0 xs) (8 + length cs) (omega arith) k (z ∙ sym la) d ∙ ap (λ l. fieldsIn (length l) (8 + length cs) (firsts (slots fs) 0 xs)) (sym t),
-      ap (drop (8 + length cs)) t ∙ drop-at (pre ++ cs) tail (8 + length cs) lc,
-      sym (ap length t ∙ la),
+    let b = take n out in
+    let r = written-box kind fs xs tail buf n out hk w in
+    let cs = r .fields in
+    let e = 8 + length cs in
+    let vs = firsts (slots fs) 0 xs in
+    let d : decode fs b 8 0 0 ≡ got vs e =
+    ap₂ (λ (b : List ℕ) (n : ℕ). decode fs b n 0 0) (r .shape) (sym (r .eight)) ∙ back fs xs 0 0 0 cs (r .coded) (r .head) tail ∙ ap (λ n. got vs (n + length cs)) (r .eight) in
+    let l : length (r .head ++ cs) ≡ e = length-append (r .head) cs ∙ ap (λ n. n + length cs) (r .eight) in (
+      e,
+      opens kind fs b vs e (omega (arith, r .long)) (r .type) (r .size) d,
+      ap (drop e) (r .shape ∙ sym (append-assoc (r .head) cs tail)) ∙ drop-at (r .head ++ cs) tail e l,
+      sym (r .long),
     )
 
 module _ (kind : ℕ) (fs : List Field) (n : ℕ) (b : List ℕ) (c : Canonical kind fs n b) where
@@ -232,11 +274,6 @@ fields-fit end fs b at v fl (got vs e) d k =
     stored-fits vs (zeros 24) 0 (limit fs) (λ k. omega (arith, zero-at 24 k)) (λ k. omega (arith, got-fits fs b at v fl vs e d k, ap (limit fs) (zero-add k))) k
 fields-fit end fs b at v fl (fault n p) d k = omega (arith, zero-at 24 k)
 
-either : (P : Fields → Type 0) (t : Bool) (x y : Fields) → P x → P y → P (when t x y)
-unfolding when
-either P true x y p q = p
-either P false x y p q = q
-
 -- what slot k of a reader's record holds is at most its field's greatest value
 pub fits : (kind : ℕ) (fs : List Field) (b : List ℕ) (k m : ℕ) (r : Fields) → r ≡ readOf kind fs b → limit fs k ≡ m → getD (r .values) k 0 ≤ m
 fits kind fs b k m r e l = omega (arith, ap (λ r. getD (r .values) k 0) e, all)
@@ -256,21 +293,6 @@ fits kind fs b k m r e l = omega (arith, ap (λ r. getD (r .values) k 0) e, all)
 
     all : P (readOf kind fs b)
     all = by (headerOf b 0 true)
-
--- a box that is read ends in the part that is lent
-pub end-in : (kind : ℕ) (fs : List Field) (b : List ℕ) (r : Fields) → r ≡ readOf kind fs b → r .end ≤ length b
-end-in kind fs b r e = omega (arith, ap (λ r. r .end) e, by (headerOf b 0 true))
-  where
-    P : Fields → Type 0
-    P r = r .end ≤ length b
-
-    got-end : (s : List ℕ) (g : Got) → length s ≤ length b → P (fieldsOf (length s) (zeros 24) 0 g)
-    got-end s (got vs p) h = h
-    got-end s (fault n p) h = omega arith
-
-    by : (h : Found) → P (headed kind fs b h)
-    by (found.Is h) = either P _ _ _ (got-end (take (h .size) b) (decode fs (take (h .size) b) (h .length) 0 0) (omega (arith, length-take (h .size) b))) (let z : 0 ≤ length b = omega arith in z)
-    by (found.Refused q) = let z : 0 ≤ length b = omega arith in z
 
 -- A BOX'S VALUE AS A RECORD: `to` lays it in slots, `from` takes it out of them
 module _ {M : Type 0} {R : Type 0} (is : M → R) (refused : Refusal → R) (from : List ℕ → M) where

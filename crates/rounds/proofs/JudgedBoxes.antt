@@ -31,7 +31,7 @@ unmoved-fine : (s : ℕ) (j : Judged) → moved s j ≡ Fine → j ≡ Fine
 unmoved-fine s Fine e = refl
 unmoved-fine s (Wrong r) e = let z : _≡_ {A = ℕ} 0 1 = cc in absurd (omega arith)
 
-sound : (kind : ℕ) (fs : List Field) (xs : List ℕ) (size : ℕ) (v : Judged) (rows buf : List ℕ) (k : ℕ) (out : List ℕ) → writeJudged kind fs xs size v rows buf ≡ wrote (Done k) out →
+pub sound : (kind : ℕ) (fs : List Field) (xs : List ℕ) (size : ℕ) (v : Judged) (rows buf : List ℕ) (k : ℕ) (out : List ℕ) → writeJudged kind fs xs size v rows buf ≡ wrote (Done k) out →
     (length rows ≡ size) × (v ≡ Fine) × (writeOf kind fs xs rows buf ≡ wrote (Done k) out)
 unfolding when
 sound kind fs xs size v rows buf k out e = by (eqb (length rows) size) refl v e

@@ -30,7 +30,7 @@ holds (suc n) w b at h =
     let m : suc n * w ≡ n * w + w = suc-mul n w in
     simp (le-ltb (length b) (at + w) (omega arith)) (holds n w b (at + w) (omega arith))
 
-as-many : (kind : ℕ) (fs : List Field) (xs : List ℕ) (size : ℕ) (rows buf : List ℕ) (k : ℕ) (out : List ℕ) → writeTable kind fs xs size rows buf ≡ wrote (Done k) out →
+pub as-many : (kind : ℕ) (fs : List Field) (xs : List ℕ) (size : ℕ) (rows buf : List ℕ) (k : ℕ) (out : List ℕ) → writeTable kind fs xs size rows buf ≡ wrote (Done k) out →
     (length rows ≡ size) × (writeOf kind fs xs rows buf ≡ wrote (Done k) out)
 unfolding when
 as-many kind fs xs size rows buf k out e = by (eqb (length rows) size) refl e

@@ -20,9 +20,6 @@ use Rattle.rounds.proofs.Boxes.{reads-back, own-read, own-bytes, fields
 to-the-end : (f : Fields) (b : List ℕ) → f .end ≡ length b → restOf f b ≡ drop (f .place) b
 to-the-end f b e = ap (λ n. take n (drop (f .place) b)) (ap (λ n. n - f .place) e ∙ sym (length-drop (f .place) b)) ∙ take-length (drop (f .place) b)
 
-pub no-rest : (f : Fields) (b : List ℕ) → f .end ≤ f .place → [] ≡ restOf f b
-no-rest f b h = sym (ap (λ n. take n (drop (f .place) b)) (let z : f .end - f .place ≡ 0 = omega (arith, h) in z))
-
 module _ {M : Type 0} {R : Type 0} (is : M → R) (refused : Refusal → R) (from : List ℕ → M) (to : M → List ℕ) (kind : ℕ) (fs : List Field) where
   pub tail-back : kind < 4294967296 → ((m : M) → from (sets (zeros 24) 0 (firsts (slots fs) 0 (to m))) ≡ m) →
       (m : M) (tail buf : List ℕ) (n : ℕ) (out : List ℕ) → writeOf kind fs (to m) tail buf ≡ wrote (Done n) out →

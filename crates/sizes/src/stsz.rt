@@ -22,9 +22,9 @@ pub enum Found {
     Refused(Refusal),
 }
 
-const KIND: u32 = 0x7374737a;
+pub const KIND: u32 = 0x7374737a;
 
-const ROW: [Field; 24] = [
+pub const ROW: [Field; 24] = [
     Field::Version(0, 0),
     Field::Flags,
     Field::Number(4),

@@ -22,9 +22,9 @@ pub enum Found {
     Refused(Refusal),
 }
 
-const KIND: u32 = 0x63747473;
+pub const KIND: u32 = 0x63747473;
 
-const ROW: [Field; 24] = [
+pub const ROW: [Field; 24] = [
     Field::Version(0, 1),
     Field::Flags,
     Field::Number(4),

@@ -34,9 +34,9 @@ pub enum Found {
     Refused(Refusal),
 }
 
-const KIND: u32 = 0x746b6864;
+pub const KIND: u32 = 0x746b6864;
 
-const ROW: [Field; 24] = [
+pub const ROW: [Field; 24] = [
     Field::Version(0, 1),
     Field::Flags,
     Field::Wide(4, 8),

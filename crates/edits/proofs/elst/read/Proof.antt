@@ -5,7 +5,8 @@ use lib.Seq.{length-take-le}
 use Rattle.numbers.specs.Field.{when}
 use Rattle.layout.specs.Rule.{ruleOf}
 use Rattle.layout.specs.Canonical.{most, limit}
-use Rattle.rounds.proofs.Boxes.{fits, end-in}
+use Rattle.layout.proofs.Rests.{end-in}
+use Rattle.rounds.proofs.Boxes.{fits}
 use Rattle.rounds.proofs.JudgedBoxes.{judged-no, judged-is, judged-wrong}
 use Rattle.edits.specs.Elst.{kind, fields, from, judge}
 use Rattle.edits.specs.declared.elst.Found.the-variants.{Is, Refused}

@@ -1,0 +1,3 @@
+pub mod StsdLaws
+mod Unique
+mod Vectors

@@ -1,0 +1,100 @@
+use mathlib.Core.Path.{refl, sym}
+use native.Mathlib.Omega.{arith}
+use lib.Seq.{length-take-le}
+use Rattle.numbers.specs.Field.{when}
+use Rattle.layout.specs.Rule.{ruleOf}
+use Rattle.layout.specs.Canonical.{most, limit}
+use Rattle.rounds.proofs.Boxes.{fits, end-in}
+use Rattle.rounds.proofs.TableBoxes.{table-no, table-is, table-cut}
+use Rattle.runs.proofs.Counts.{by-cells}
+use Rattle.runs.specs.Trun.{kind, fields, from, cells}
+use Rattle.runs.specs.declared.trun.Found.the-variants.{Is, Refused}
+use borrow.Author.Needs.{needs}
+use Rattle.runs.proofs.trun.read.Statement.{statement}
+use Rattle.runs.proofs.trun.read.Tie as tie
+
+by-requires : tie.Need-by-requires
+by-requires c κs = search needs
+
+returns : tie.Need-returns
+returns c = table-no Is Refused from cells 4 (c .before .before .before .before .args .part .now) _ _ (c .before .before .by .ensures) (c .if1 .taken)
+
+array-read-t39 : tie.Need-array-read-t39
+array-read-t39 c = search needs
+
+cast-t40 : tie.Need-cast-t40
+unfolding limit most ruleOf when
+cast-t40 c = omega (arith, fits kind fields (c .before .before .before .before .before .args .part .now) 0 1 _ (c .before .before .before .by .ensures) refl)
+
+array-read-t43 : tie.Need-array-read-t43
+array-read-t43 c = search needs
+
+cast-t44 : tie.Need-cast-t44
+unfolding limit most ruleOf when
+cast-t44 c = omega (arith, fits kind fields (c .before .before .before .before .before .args .part .now) 1 16777215 _ (c .before .before .before .by .ensures) refl)
+
+array-read-t47 : tie.Need-array-read-t47
+array-read-t47 c = search needs
+
+cast-t48 : tie.Need-cast-t48
+unfolding limit most ruleOf when
+cast-t48 c = omega (arith, fits kind fields (c .before .before .before .before .before .args .part .now) 2 4294967295 _ (c .before .before .before .by .ensures) refl)
+
+array-read-t51 : tie.Need-array-read-t51
+array-read-t51 c = search needs
+
+cast-t52 : tie.Need-cast-t52
+unfolding limit most ruleOf when
+cast-t52 c = omega (arith, fits kind fields (c .before .before .before .before .before .args .part .now) 3 4294967295 _ (c .before .before .before .by .ensures) refl)
+
+array-read-t55 : tie.Need-array-read-t55
+array-read-t55 c = search needs
+
+cast-t56 : tie.Need-cast-t56
+unfolding limit most ruleOf when
+cast-t56 c = omega (arith, fits kind fields (c .before .before .before .before .before .args .part .now) 4 4294967295 _ (c .before .before .before .by .ensures) refl)
+
+cells-of-requires : tie.Need-cells-of-requires
+cells-of-requires c κs = search needs
+
+slice-aggregate-first-cut : tie.Need-slice-aggregate-first-cut
+slice-aggregate-first-cut c = sym (length-take-le _ (c .before .before .before .before .before .before .before .args .part .now) (end-in kind fields (c .before .before .before .before .before .before .before .args .part .now) _ (c .before .before .before .before .before .by .ensures)))
+
+first-cut-requires : tie.Need-first-cut-requires
+first-cut-requires c κs = search needs
+
+enum-told : tie.Need-enum-told
+enum-told c = search needs
+
+enum-known-cut : tie.Need-enum-known-cut
+enum-known-cut c = search needs
+
+returns-2 : tie.Need-returns-2
+returns-2 c = table-is Is Refused from cells 4 (c .before .before .before .before .before .before .before .before .before .before .args .part .now) _ _ (c .before .before .before .before .before .before .before .before .by .ensures) (c .before .before .before .before .before .before .if1 .left) _ (by-cells _ _ _ _ _ _ (c .before .before .first-cut .ensures) (c .before .before .before .before .cells-of .ensures)) (c .enum-told .given .1)
+
+returns-3 : tie.Need-returns-3
+returns-3 c = table-cut Is Refused from cells 4 (c .before .before .before .before .before .before .before .before .before .before .before .args .part .now) _ _ (c .before .before .before .before .before .before .before .before .before .by .ensures) (c .before .before .before .before .before .before .before .if1 .left) _ _ (by-cells _ _ _ _ _ _ (c .before .before .before .first-cut .ensures) (c .before .before .before .before .before .cells-of .ensures)) (c .before .cut .given .1)
+
+pub read-spec : {M : Type 1} → statement M
+read-spec =
+    tie.close
+    (tie.spec
+    by-requires
+    returns
+    array-read-t39
+    cast-t40
+    array-read-t43
+    cast-t44
+    array-read-t47
+    cast-t48
+    array-read-t51
+    cast-t52
+    array-read-t55
+    cast-t56
+    cells-of-requires
+    slice-aggregate-first-cut
+    first-cut-requires
+    enum-told
+    enum-known-cut
+    returns-2
+    returns-3)
