@@ -7,7 +7,8 @@ hangs or dies. PROGRAM is the built crates/copy_boxes with the words that start 
 expected/boxes.py answers alone, and with it both answer and must agree. N boxes are made: first the ordered ones (every
 length around each boundary, versions, all flags of tfhd and trun, the limits of each field), or as many of them as N
 allows, then damaged ones, from SEED alone. It ends with 1 where a difference is of no class of expected/rust.py.
-    python3 expected/oracle.py --store ORACLE N SEED      makes crates/copy_boxes/data/oracle.pack and its answers
+    python3 expected/oracle.py --store ORACLE N SEED
+stores some hundreds of these boxes with the original's answers in expected/oracle.txt.
 """
 import collections
 import os
@@ -297,6 +298,7 @@ def damaged(kind, sound, rnd):
         data[:4] = u(4, rnd.choice((len(data), len(data) + rnd.randrange(-9, 9), rnd.randrange(64))))
     elif len(data) >= 4 and rnd.random() < .9:
         data[:3] = sound[:3]  # few sizes of millions
+    data[4:8] = sound[4:8][:max(len(data) - 4, 0)]
     return bytes(data)
 
 
@@ -427,7 +429,54 @@ def compared(cases, ours, answers):
     return found, strange
 
 
+# THE FIXED LIST
+
+def chosen(cases, answers, found):
+    """Some hundreds of them: of each class and kind the smallest, of each kind some that are alike, and every set of
+    flags."""
+    keep = set()
+    by_class, by_kind = collections.defaultdict(list), collections.defaultdict(list)
+    for i, ((kind, data), (read, _), numbers) in enumerate(zip(cases, answers, found)):
+        for number in numbers:
+            by_class[kind, number].append(i)
+        if not numbers:
+            by_kind[kind, read.startswith("OK")].append(i)
+    for place in by_class.values():
+        keep.update(sorted(place, key=lambda i: len(cases[i][1]))[:4])
+    for (_, taken), place in by_kind.items():
+        keep.update(place[::max(len(place) // (16 if taken else 8), 1)][:16 if taken else 8])
+    flags = {box("tfhd", tfhd(0, flags, 1, 2, 3, 4, 5, 6)) for flags in sums(TFHD_FLAGS)}
+    flags |= {box("trun", trun(i % 2, flags, 100, 0x2000000, [(1, 2, 3, 4), (5, 6, 7, -8)])) for i, flags in enumerate(sums(TRUN_FLAGS))}
+    keep.update(i for i, (_, data) in enumerate(cases) if data in flags)
+    return [i for i in sorted(keep) if len(cases[i][1]) < 512]
+
+
+HEAD = """# Boxes and what the original, the Rust crate mp4 0.14.0, answers to them: its record and position (read), the bytes
+# that it writes of it (copy). Its supplied files were compiled as they are, over stand-ins that hold data only, without
+# overflow checks, by rustc 1.95 for Arm; HANG is no answer within two seconds. `differs` has the numbers of
+# docs/DIFFERENCES.md. Made by expected/oracle.py --store ORACLE %d %d, which takes of %d boxes the smallest of each
+# class, some that are alike, and every set of flags of tfhd and trun.
+"""
+
+
+def store(oracle, count, seed):
+    cases = made(count, seed)
+    answers = rust_answers(oracle, cases)
+    found, strange = compared(cases, our_answers(None, cases), answers)
+    if strange:
+        sys.exit(1)
+    keep = chosen(cases, answers, found)
+    with open(rust.STORED, "w") as file:
+        file.write(HEAD % (count, seed, count))
+        for i in keep:
+            (kind, data), (read, copy), numbers = cases[i], answers[i], found[i]
+            file.write(f"box {kind} {data.hex()}\nread {read}\ncopy {copy}\ndiffers {' '.join(map(str, numbers))}\n")
+    print(f"{len(keep)} boxes stored")
+
+
 def main():
+    if sys.argv[1] == "--store":
+        return store(sys.argv[2], int(sys.argv[3]), int(sys.argv[4]))
     oracle, count, seed = sys.argv[1], int(sys.argv[2]), int(sys.argv[3])
     program = sys.argv[4] if len(sys.argv) > 4 else None
     cases = made(count, seed)

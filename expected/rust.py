@@ -6,7 +6,8 @@ For a box there are three answers: our line (crates/copy_boxes, expected/boxes.p
 no position. Where they differ, each single difference must be of a class below, which has a number in
 docs/DIFFERENCES.md, and a test on the box and the two answers.
 
-    python3 expected/rust.py           compares the stored answers with crates/copy_boxes/stdout
+    python3 expected/rust.py --pack PACK    writes the boxes of the fixed list, expected/oracle.txt
+    python3 expected/rust.py STDOUT         compares the lines of crates/copy_boxes with the list's answers
 """
 import pathlib
 import re
@@ -14,7 +15,7 @@ import sys
 
 import boxes
 
-ROOT = pathlib.Path(__file__).resolve().parent.parent
+STORED = pathlib.Path(__file__).resolve().parent / "oracle.txt"
 KINDS = "mdhd mfhd tfhd tfdt elst edts trun emsg dinf".split()
 
 
@@ -671,8 +672,46 @@ def large_child(d):
                     children(d)[0] + [place for place, part in (entries(d) if d.kind == "dinf" else []) if part]))
 
 
+# THE FIXED LIST
+
+def stored():
+    """Its boxes: kind, bytes, the original's two answers, and the numbers of the differences."""
+    with open(STORED) as file:
+        lines = [line.rstrip("\n").partition(" ") for line in file if not line.startswith("#")]
+    for box, read, copy, differs in zip(*(lines[i::4] for i in range(4))):
+        kind, _, digits = box[2].partition(" ")
+        yield kind, bytes.fromhex(digits), read[2], copy[2], [int(number) for number in differs[2].split()]
+
+
+def pack():
+    """The boxes of the list, each with those in it that are read."""
+    return boxes.pack_of(part for kind, data, *_ in stored() for _, part in parts(kind, data))
+
+
+def replay(lines):
+    """Compares the lines of crates/copy_boxes for that pack with the stored answers."""
+    lines, alike, wrong, met = iter(lines), 0, 0, set()
+    for kind, data, read, copy, numbers in stored():
+        found = list(parts(kind, data))
+        got = classes(kind, data, answer(kind, found, [next(lines) for _ in found]), Rust(read, copy))
+        if got != numbers:
+            print(f"{kind} {data.hex()}: stored {numbers}, found {got}")
+            wrong += 1
+        alike += not got
+        met.update(got)
+    total = sum(1 for _ in stored())
+    print(f"{total} boxes and the original's stored answers: {alike} alike, {total - alike} with differences of {len(met)} "
+          f"classes, {wrong} not as stored")
+    return wrong == 0
+
+
 def main():
-    pass
+    if sys.argv[1] == "--pack":
+        pathlib.Path(sys.argv[2]).write_bytes(pack())
+        return
+    lines = pathlib.Path(sys.argv[1]).read_text().splitlines()
+    first = lines.index("oracle.pack") + 1
+    sys.exit(0 if replay(lines[first:]) else 1)
 
 
 if __name__ == "__main__":

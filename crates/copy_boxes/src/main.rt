@@ -6,6 +6,7 @@
 // number and the detail.
 mod edit;
 mod plain;
+mod run;
 mod say;
 mod table;
 mod tail;
@@ -36,6 +37,9 @@ fn copy_known(kind: u32, part: &[u8], out: &mut [u8]) -> bool {
         return true;
     }
     if edit::copy(kind, part, out) {
+        return true;
+    }
+    if run::copy(kind, part, out) {
         return true;
     }
     tail::copy(kind, part, out)

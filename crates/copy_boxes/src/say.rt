@@ -20,6 +20,10 @@ pub(crate) fn numbers(row: &[u64]) {
     }
 }
 
+pub(crate) fn one(a: u32) {
+    number(a as u64);
+}
+
 pub(crate) fn two(a: u32, b: u32) {
     numbers(&[a as u64, b as u64]);
 }
