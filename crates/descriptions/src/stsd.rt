@@ -18,9 +18,9 @@ pub enum Found {
     Refused(Refusal),
 }
 
-const KIND: u32 = 0x73747364;
+pub const KIND: u32 = 0x73747364;
 
-const ROW: [Field; 24] = [
+pub const ROW: [Field; 24] = [
     Field::Version(0, 0),
     Field::Flags,
     Field::Number(4),

@@ -26,7 +26,7 @@ pub enum Found {
     Refused(Refusal),
 }
 
-const KIND: u32 = 0x7472756e;
+pub const KIND: u32 = 0x7472756e;
 
 // The flags with which a value is there.
 const DATA_OFFSET_BIT: u32 = 0x1;
@@ -41,7 +41,7 @@ const FLAGS_BIT: u32 = 0x400;
 
 const COMPOSITION_BIT: u32 = 0x800;
 
-const ROW: [Field; 24] = [
+pub const ROW: [Field; 24] = [
     Field::Version(0, 1),
     Field::Flags,
     Field::Number(4),

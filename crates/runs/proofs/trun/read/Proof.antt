@@ -4,7 +4,8 @@ use lib.Seq.{length-take-le}
 use Rattle.numbers.specs.Field.{when}
 use Rattle.layout.specs.Rule.{ruleOf}
 use Rattle.layout.specs.Canonical.{most, limit}
-use Rattle.rounds.proofs.Boxes.{fits, end-in}
+use Rattle.layout.proofs.Rests.{end-in}
+use Rattle.rounds.proofs.Boxes.{fits}
 use Rattle.rounds.proofs.TableBoxes.{table-no, table-is, table-cut}
 use Rattle.runs.proofs.Counts.{by-cells}
 use Rattle.runs.specs.Trun.{kind, fields, from, cells}
