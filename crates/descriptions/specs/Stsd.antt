@@ -1,5 +1,6 @@
--- How the samples of a track are coded (ISO/IEC 14496-12, 8.5.2): how many sample entries there are, and then their boxes,
--- to the box's end. Whether there are as many as the count says is told by the tree of boxes (A47). Assumes nothing.
+-- How the samples of a track are coded (ISO/IEC 14496-12, 8.5.2): how many sample entries there are, and then their
+-- boxes, to the box's end. Whether there are as many as the count says is told by the tree of boxes (A47).
+-- Assumes nothing.
 use Prim.Native.Nat.{ℕ}
 use mathlib.Core.List.{List, [], _∷_}
 use lib.ListN.{getD}

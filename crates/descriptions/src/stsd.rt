@@ -1,5 +1,5 @@
-// How the samples of a track are coded (ISO/IEC 14496-12, 8.5.2): how many sample entries there are, and then their boxes,
-// to the box's end. Whether there are as many as the count says is told by the tree of boxes (A47).
+// How the samples of a track are coded (ISO/IEC 14496-12, 8.5.2): how many sample entries there are, and then their
+// boxes, to the box's end. Whether there are as many as the count says is told by the tree of boxes (A47).
 ghost use mathlib.Core.Path.{_≡_};
 ghost use Rattle.put.specs.Put.{wrote};
 ghost use Rattle.descriptions.specs.Stsd.{stsdOf, entriesOf, stsdIn};

@@ -1,3 +1,5 @@
+pub mod Firsts
+pub mod KeyLaws
 pub mod Picks
 mod Unique
 mod Vectors

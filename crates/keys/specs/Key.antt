@@ -10,13 +10,13 @@ use Rattle.numbers.specs.Field.{when}
 use Rattle.layout.specs.Read.{readOf}
 use Rattle.layout.specs.Write.{padded}
 use Rattle.layout.specs.declared.Field.{Field}
-use Rattle.layout.specs.declared.Field.the-variants.{Number, Version, Flags}
 use Rattle.layout.specs.declared.read.Fields.{Fields}
 use Rattle.places.specs.Kinds as kinds
 use Rattle.tracks.specs.Tkhd as tkhd
 use Rattle.movie.specs.Trex as trex
 use Rattle.fragments.specs.Tfhd as tfhd
 use Rattle.sizes.specs.Stsz as stsz
+use Rattle.runs.specs.Trun as trun
 use Rattle.references.specs.Url as url
 use Rattle.keys.specs.declared.Key.{Key}
 use Rattle.keys.specs.declared.Key.the-variants.{Absent, Is}
@@ -37,7 +37,7 @@ keys =
     keyed kinds.trex trex.fields 2 ∷
     keyed kinds.tfhd tfhd.fields 2 ∷
     keyed kinds.stsz stsz.fields 3 ∷
-    keyed kinds.trun (Version 0 1 ∷ Flags ∷ Number 4 ∷ []) 2 ∷
+    keyed kinds.trun trun.fields 2 ∷
     keyed kinds.url url.fields 1 ∷
     []
 

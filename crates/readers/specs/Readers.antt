@@ -7,6 +7,9 @@ use Rattle.numbers.specs.Field.{when}
 use Rattle.places.specs.Kinds as kinds
 use Rattle.rows.specs.declared.Judged.{Judged}
 use Rattle.rows.specs.declared.Judged.the-variants.{Fine, Wrong}
+use Rattle.events.specs.Emsg.{emsgOf}
+use Rattle.events.specs.declared.emsg.Found as emsg-found
+use Rattle.events.specs.declared.emsg.Found.the-variants as emsg
 use Rattle.movie.specs.Trex.{trexOf}
 use Rattle.movie.specs.declared.trex.Found as trex-found
 use Rattle.movie.specs.declared.trex.Found.the-variants as trex
@@ -22,9 +25,15 @@ use Rattle.movie.specs.declared.mdhd.Found.the-variants as mdhd
 use Rattle.handlers.specs.Hdlr.{hdlrOf}
 use Rattle.handlers.specs.declared.hdlr.Found as hdlr-found
 use Rattle.handlers.specs.declared.hdlr.Found.the-variants as hdlr
+use Rattle.references.specs.Dref.{drefOf}
+use Rattle.references.specs.declared.dref.Found as dref-found
+use Rattle.references.specs.declared.dref.Found.the-variants as dref
 use Rattle.references.specs.Url.{urlOf}
 use Rattle.references.specs.declared.url.Found as url-found
 use Rattle.references.specs.declared.url.Found.the-variants as url
+use Rattle.descriptions.specs.Stsd.{stsdOf}
+use Rattle.descriptions.specs.declared.stsd.Found as stsd-found
+use Rattle.descriptions.specs.declared.stsd.Found.the-variants as stsd
 use Rattle.timetables.specs.Stts.{sttsOf}
 use Rattle.timetables.specs.declared.stts.Found as stts-found
 use Rattle.timetables.specs.declared.stts.Found.the-variants as stts
@@ -55,8 +64,15 @@ use Rattle.fragments.specs.declared.tfhd.Found.the-variants as tfhd
 use Rattle.fragments.specs.Tfdt.{tfdtOf}
 use Rattle.fragments.specs.declared.tfdt.Found as tfdt-found
 use Rattle.fragments.specs.declared.tfdt.Found.the-variants as tfdt
+use Rattle.runs.specs.Trun.{trunOf}
+use Rattle.runs.specs.declared.trun.Found as trun-found
+use Rattle.runs.specs.declared.trun.Found.the-variants as trun
 
 -- what each reader's answer refuses
+abbrev pub emsgFault : emsg-found.Found → Judged
+emsgFault (emsg.Is m at) = Fine
+emsgFault (emsg.Refused q) = Wrong q
+
 abbrev pub trexFault : trex-found.Found → Judged
 trexFault (trex.Is m) = Fine
 trexFault (trex.Refused q) = Wrong q
@@ -77,9 +93,17 @@ abbrev pub hdlrFault : hdlr-found.Found → Judged
 hdlrFault (hdlr.Is m) = Fine
 hdlrFault (hdlr.Refused q) = Wrong q
 
+abbrev pub drefFault : dref-found.Found → Judged
+drefFault (dref.Is m) = Fine
+drefFault (dref.Refused q) = Wrong q
+
 abbrev pub urlFault : url-found.Found → Judged
 urlFault (url.Is m) = Fine
 urlFault (url.Refused q) = Wrong q
+
+abbrev pub stsdFault : stsd-found.Found → Judged
+stsdFault (stsd.Is m) = Fine
+stsdFault (stsd.Refused q) = Wrong q
 
 abbrev pub sttsFault : stts-found.Found → Judged
 sttsFault (stts.Is m at) = Fine
@@ -121,6 +145,10 @@ abbrev pub tfdtFault : tfdt-found.Found → Judged
 tfdtFault (tfdt.Is m) = Fine
 tfdtFault (tfdt.Refused q) = Wrong q
 
+abbrev pub trunFault : trun-found.Found → Judged
+trunFault (trun.Is m at) = Fine
+trunFault (trun.Refused q) = Wrong q
+
 -- a type, and what its reader refuses of a part
 pub record Reader : Type 0 where
   pub kind : ℕ
@@ -131,12 +159,15 @@ reader kind fault = record { kind = kind; fault = fault }
 
 unfoldable pub readers : List Reader
 readers =
+    reader kinds.emsg (λ part. emsgFault (emsgOf part)) ∷
     reader kinds.trex (λ part. trexFault (trexOf part)) ∷
     reader kinds.tkhd (λ part. tkhdFault (tkhdOf part)) ∷
     reader kinds.elst (λ part. elstFault (elstOf part)) ∷
     reader kinds.mdhd (λ part. mdhdFault (mdhdOf part)) ∷
     reader kinds.hdlr (λ part. hdlrFault (hdlrOf part)) ∷
+    reader kinds.dref (λ part. drefFault (drefOf part)) ∷
     reader kinds.url (λ part. urlFault (urlOf part)) ∷
+    reader kinds.stsd (λ part. stsdFault (stsdOf part)) ∷
     reader kinds.stts (λ part. sttsFault (sttsOf part)) ∷
     reader kinds.ctts (λ part. cttsFault (cttsOf part)) ∷
     reader kinds.stsc (λ part. stscFault (stscOf part)) ∷
@@ -147,6 +178,7 @@ readers =
     reader kinds.mfhd (λ part. mfhdFault (mfhdOf part)) ∷
     reader kinds.tfhd (λ part. tfhdFault (tfhdOf part)) ∷
     reader kinds.tfdt (λ part. tfdtFault (tfdtOf part)) ∷
+    reader kinds.trun (λ part. trunFault (trunOf part)) ∷
     []
 
 -- the reader of a type, asked

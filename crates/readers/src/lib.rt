@@ -1,11 +1,14 @@
 // What the reader of a box of any type refuses. A type whose content is not read is fine.
 ghost use mathlib.Core.Path.{_≡_};
+ghost use Rattle.events.specs.Emsg.{emsgOf};
 ghost use Rattle.movie.specs.Trex.{trexOf};
 ghost use Rattle.movie.specs.Mdhd.{mdhdOf};
 ghost use Rattle.tracks.specs.Tkhd.{tkhdOf};
 ghost use Rattle.edits.specs.Elst.{elstOf};
 ghost use Rattle.handlers.specs.Hdlr.{hdlrOf};
+ghost use Rattle.references.specs.Dref.{drefOf};
 ghost use Rattle.references.specs.Url.{urlOf};
+ghost use Rattle.descriptions.specs.Stsd.{stsdOf};
 ghost use Rattle.timetables.specs.Stts.{sttsOf};
 ghost use Rattle.timetables.specs.Ctts.{cttsOf};
 ghost use Rattle.ruled.specs.Stsc.{stscOf};
@@ -16,9 +19,22 @@ ghost use Rattle.chunks.specs.Co64.{co64Of};
 ghost use Rattle.fragments.specs.Mfhd.{mfhdOf};
 ghost use Rattle.fragments.specs.Tfhd.{tfhdOf};
 ghost use Rattle.fragments.specs.Tfdt.{tfdtOf};
-ghost use Rattle.readers.specs.Readers.{faultOf, trexFault, tkhdFault, elstFault, mdhdFault, hdlrFault, urlFault, sttsFault, cttsFault, stscFault, stszFault, stcoFault, co64Fault, stssFault, mfhdFault, tfhdFault, tfdtFault};
+ghost use Rattle.runs.specs.Trun.{trunOf};
+ghost use Rattle.readers.specs.Readers.{faultOf, emsgFault, trexFault, tkhdFault, elstFault, mdhdFault};
+ghost use Rattle.readers.specs.Readers.{hdlrFault, drefFault, urlFault, stsdFault, sttsFault, cttsFault};
+ghost use Rattle.readers.specs.Readers.{stscFault, stszFault, stcoFault, co64Fault, stssFault, mfhdFault};
+ghost use Rattle.readers.specs.Readers.{tfhdFault, tfdtFault, trunFault};
 use places::kinds;
 use rows::Judged;
+
+fn emsg(part: &[u8]) -> Judged
+    ensures { λ r. ⌜ r ≡ emsgFault (emsgOf (now (part .entry))) ⌝ }
+{
+    match events::emsg::read(part) {
+        events::emsg::Found::Is(_, _) => Judged::Fine,
+        events::emsg::Found::Refused(q) => Judged::Wrong(q),
+    }
+}
 
 fn trex(part: &[u8]) -> Judged
     ensures { λ r. ⌜ r ≡ trexFault (trexOf (now (part .entry))) ⌝ }
@@ -65,12 +81,30 @@ fn hdlr(part: &[u8]) -> Judged
     }
 }
 
+fn dref(part: &[u8]) -> Judged
+    ensures { λ r. ⌜ r ≡ drefFault (drefOf (now (part .entry))) ⌝ }
+{
+    match references::dref::read(part) {
+        references::dref::Found::Is(_) => Judged::Fine,
+        references::dref::Found::Refused(q) => Judged::Wrong(q),
+    }
+}
+
 fn url(part: &[u8]) -> Judged
     ensures { λ r. ⌜ r ≡ urlFault (urlOf (now (part .entry))) ⌝ }
 {
     match references::url::read(part) {
         references::url::Found::Is(_) => Judged::Fine,
         references::url::Found::Refused(q) => Judged::Wrong(q),
+    }
+}
+
+fn stsd(part: &[u8]) -> Judged
+    ensures { λ r. ⌜ r ≡ stsdFault (stsdOf (now (part .entry))) ⌝ }
+{
+    match descriptions::stsd::read(part) {
+        descriptions::stsd::Found::Is(_) => Judged::Fine,
+        descriptions::stsd::Found::Refused(q) => Judged::Wrong(q),
     }
 }
 
@@ -164,10 +198,22 @@ fn tfdt(part: &[u8]) -> Judged
     }
 }
 
+fn trun(part: &[u8]) -> Judged
+    ensures { λ r. ⌜ r ≡ trunFault (trunOf (now (part .entry))) ⌝ }
+{
+    match runs::trun::read(part) {
+        runs::trun::Found::Is(_, _) => Judged::Fine,
+        runs::trun::Found::Refused(q) => Judged::Wrong(q),
+    }
+}
+
 // The refusal of the reader of this type, its positions from the part's start on.
 pub fn fault(kind: u32, part: &[u8]) -> Judged
     ensures { λ r. ⌜ r ≡ faultOf kind (now (part .entry)) ⌝ }
 {
+    if kind == kinds::EMSG {
+        return emsg(part);
+    }
     if kind == kinds::TREX {
         return trex(part);
     }
@@ -183,8 +229,14 @@ pub fn fault(kind: u32, part: &[u8]) -> Judged
     if kind == kinds::HDLR {
         return hdlr(part);
     }
+    if kind == kinds::DREF {
+        return dref(part);
+    }
     if kind == kinds::URL {
         return url(part);
+    }
+    if kind == kinds::STSD {
+        return stsd(part);
     }
     if kind == kinds::STTS {
         return stts(part);
@@ -215,6 +267,9 @@ pub fn fault(kind: u32, part: &[u8]) -> Judged
     }
     if kind == kinds::TFDT {
         return tfdt(part);
+    }
+    if kind == kinds::TRUN {
+        return trun(part);
     }
     Judged::Fine
 }

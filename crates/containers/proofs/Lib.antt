@@ -1,0 +1,3 @@
+pub mod ContainerLaws
+mod Unique
+mod Vectors
