@@ -230,11 +230,12 @@ def by_chance(kind, rnd):
             return rnd.choice((b"", b"urn:mpeg:dash:event:2012", bytes(rnd.randrange(1, 256) for _ in range(rnd.randrange(9)))))
         return emsg(version, flags, string(), string(), n(4), n(8), n(4), n(4), rnd.randbytes(rnd.randrange(20)))
     if kind == "edts":
-        children = [box("elst", by_chance("elst", rnd)), box("free", rnd.randbytes(rnd.randrange(5)))]
-        return b"".join(rnd.choices(children, weights=(4, 1), k=rnd.choice((0, 1, 1, 1, 1, 2))))
-    references = [url(rnd.randrange(2), rnd.choice((b"", b"http://a/b\0", rnd.randbytes(rnd.randrange(6))))) for _ in range(rnd.randrange(4))]
-    content = dref(references, rnd.choice((None, None, None, rnd.randrange(5))))
-    return content + rnd.choice((b"", b"", b"", box("free")))
+        children = [box("elst", by_chance("elst", rnd)), box("elst", elst(0, 0, [(n(4), n(4) >> 1, 1, 0)])), box("free", rnd.randbytes(rnd.randrange(5)))]
+        return b"".join(rnd.choices(children, weights=(4, 4, 1), k=rnd.choice((0, 1, 1, 1, 1, 1, 1, 2))))
+    some = [url(rnd.randrange(2), rnd.choice((b"", b"http://a/b\0", rnd.randbytes(rnd.randrange(6))))) for _ in range(rnd.randrange(4))]
+    one = [url(n(3), rnd.choice((b"", b"file:" + bytes(rnd.randrange(1, 128) for _ in range(rnd.randrange(9))) + b"\0")))]
+    content = rnd.choice((dref(some, rnd.choice((None, None, rnd.randrange(5)))), dref(one), dref(one, flags=flags)))
+    return content + rnd.choice((b"", b"", b"", b"", b"", b"", box("free")))
 
 
 # THE BOXES

@@ -134,6 +134,7 @@ class Held(Ours):
     def __init__(self, parts, lines):
         super().__init__(lines[0], parts[0][1])
         self.inner, self.inner_at = parts[0][1][4:8], 0
+        self.place = parts[1][0] if len(parts) > 1 else 0
         self.held = []
         for (place, part), line in zip(parts[1:], lines[1:]):
             one = Ours(line, part)
@@ -194,19 +195,19 @@ def text(word):
 
 # EACH FIELD OF BOTH RECORDS: its name, ours, the original's
 
-def mdhd(ours, rust, data):
+def mdhd(ours, rust, written):
     names = "version flags creation_time modification_time timescale duration".split()
     yield from zip(names, ours.words, (rust[name] for name in names))
     first, second, third = (letter & 0x1F for letter in rust["language"])
     yield "language", ours.words[6], first << 10 | second << 5 | third
 
 
-def mfhd(ours, rust, data):
+def mfhd(ours, rust, written):
     names = "version flags sequence_number".split()
     yield from zip(names, ours.words, (rust[name] for name in names))
 
 
-def tfdt(ours, rust, data):
+def tfdt(ours, rust, written):
     names = "version flags base_media_decode_time".split()
     yield from zip(names, ours.words, (rust[name] for name in names))
 
@@ -216,7 +217,7 @@ def present(ours, flags, flag):
     return ours if flags & flag else None if ours == 0 else "not 0"
 
 
-def tfhd(ours, rust, data):
+def tfhd(ours, rust, written):
     names = "version flags track_id".split()
     yield from zip(names, ours.words, (rust[name] for name in names))
     names = ("base_data_offset sample_description_index default_sample_duration default_sample_size "
@@ -225,7 +226,7 @@ def tfhd(ours, rust, data):
         yield name, present(word, ours.words[1], flag), rust[name]
 
 
-def elst(ours, rust, data):
+def elst(ours, rust, written):
     names = "version flags".split()
     yield from zip(names, ours.words, (rust[name] for name in names))
     yield "count", ours.words[2], len(rust["entries"])
@@ -235,7 +236,7 @@ def elst(ours, rust, data):
     yield "entries", len(ours.table(3)), len(rust["entries"])
 
 
-def trun(ours, rust, data):
+def trun(ours, rust, written):
     names = "version flags sample_count".split()
     yield from zip(names, ours.words, (rust[name] for name in names))
     flags, samples = ours.words[1], ours.table(5)
@@ -252,7 +253,7 @@ def trun(ours, rust, data):
             yield name, [one for one in mine if one is not None], rust[name]
 
 
-def emsg(ours, rust, data):
+def emsg(ours, rust, written):
     names = "version flags timescale".split()
     yield from zip(names, ours.words, (rust[name] for name in names))
     time = ("presentation_time_delta", "presentation_time")
@@ -265,14 +266,17 @@ def emsg(ours, rust, data):
     yield "message_data", text(ours.words[8]), bytes(rust["message_data"])
 
 
-def edts(ours, rust, data):
+def edts(ours, rust, written):
+    yield "place", ours.words, [ours.place]
     yield "elst", len(ours.held), 0 if rust["elst"] is None else 1
     if ours.held and rust["elst"] is not None:
-        yield from elst(ours.held[0][1], rust["elst"], data)
+        yield from elst(ours.held[0][1], rust["elst"], written)
+        yield "elst wrote", ours.held[0][1].wrote, written[8:]
 
 
-def dinf(ours, rust, data):
+def dinf(ours, rust, written):
     """Of the references the original keeps one, the last."""
+    yield "place", ours.words, [ours.place]
     mine, other = [one for kind, one in ours.held if kind == b"dref"], rust["dref"]
     yield from zip(("version", "flags"), mine[0].words, (other["version"], other["flags"]))
     urls = [one for kind, one in ours.held if kind == b"url "]
@@ -281,6 +285,7 @@ def dinf(ours, rust, data):
         last = urls[-1].words
         yield from zip(("url version", "url flags"), last, (other["url"]["version"], other["url"]["flags"]))
         yield "location", text(last[2])[:-1] if last[2].endswith("00") else text(last[2]), other["url"]["location"]
+        yield "url wrote", urls[-1].wrote, kept_url(other["url"])
 
 
 FIELDS = {fields.__name__: fields for fields in (mdhd, mfhd, tfdt, tfhd, elst, trun, emsg, edts, dinf)}
@@ -330,7 +335,7 @@ def differences(kind, data, ours, rust):
     if rust.how != "OK":
         yield "refused", "read", rust.how
         return
-    for name, mine, other in FIELDS[kind](ours, rust.record, data):
+    for name, mine, other in FIELDS[kind](ours, rust.record, rust.wrote):
         if mine != other:
             yield name, mine, other
     if boxes.header(data)[1] != rust.position:
@@ -444,7 +449,8 @@ def composition_offset(d):
 @of_class(27)
 def trun_without_sizes(d):
     return (d.kind == "trun" and d.name == "unwritten" and not boxes.number(d.mine, 9, 3) & 0x200
-            and "sample count out of sync" in d.other)
+            and d.other.startswith('ERR InvalidData("sample count out of sync") after=')
+            and d.mine.startswith(bytes.fromhex(d.other.split("=")[1])))
 
 
 @of_class(28)
@@ -539,7 +545,7 @@ def edts_first_child(d):
     places, fault = children(d)
     if d.name == "taken":  # a fault behind the first child
         return bool(places) and d.mine[1] > places[0] and d.ours.inner_at != places[0] and d.other == "OK"
-    if d.name in ("elst", "wrote"):
+    if d.name == "elst" or d.name == "wrote" and as_it_was(d):
         return bool(places) and child_kind(d, places[0]) != "elst" and d.rust.record["elst"] is None
     return d.name == "refused" and not places
 
@@ -571,8 +577,14 @@ def urls(d):
     return [one for kind, one in d.ours.held if kind == b"url "]
 
 
+def as_it_was(d):
+    """Ours around the children's bytes."""
+    start, end = boxes.header(d.data)
+    return d.mine == made(d.kind.encode(), d.data[start:end])
+
+
 def of_dinf(d):
-    return d.kind == "dinf" and d.name == "wrote" and d.other == kept(d)
+    return d.kind == "dinf" and d.name == "wrote" and d.other == kept(d) and as_it_was(d)
 
 
 @of_class(36)
@@ -591,7 +603,8 @@ def several_references(d):
 def once_only_twice(d):
     """Two dref: the last one wins. Our reader of the box takes the first; in a file the second is 6."""
     drefs = [place for place in children(d)[0] if child_kind(d, place) == "dref"] if d.kind == "dinf" else []
-    return len(drefs) > 1 and not d.ours.refused
+    return (len(drefs) > 1 and not d.ours.refused and d.rust.how == "OK"
+            and (d.name in ("version", "flags", "url", "url version", "url flags", "location", "url wrote") or of_dinf(d)))
 
 
 def behind_the_entries(d):
@@ -611,7 +624,7 @@ def dropped(d):
     if d.kind == "dinf":
         return of_dinf(d) and (len(places) > 1 or behind_the_entries(d))
     elst = d.rust.record["elst"] and d.ours.held[0][1].wrote
-    if d.other != made(b"edts", elst or b""):
+    if d.other != made(b"edts", elst or b"") or not as_it_was(d):
         return False
     return len(places) > 1 or bool(elst) and boxes.header(d.data, places[0], None, top=False)[1] - places[0] > len(elst)
 
@@ -626,7 +639,7 @@ def url_not_utf8(d):
     locations = [text(one.words[2]) for one in urls(d)] if d.kind == "dinf" and not d.ours.refused else []
     if not locations or is_utf8(locations[-1][:-1]):
         return False
-    return d.name == "location" and d.other == b"" or of_dinf(d)
+    return d.name in ("location", "url wrote") and d.rust.record["dref"]["url"]["location"] == b"" or of_dinf(d)
 
 
 @of_class(78)
@@ -634,13 +647,14 @@ def url_without_its_0(d):
     locations = [text(one.words[2]) for one in urls(d)] if d.kind == "dinf" and not d.ours.refused else []
     if not locations or not locations[-1] or locations[-1][-1] == 0:
         return False
-    return d.name == "location" and d.other == locations[-1][:-1] or of_dinf(d)
+    kept_location = d.rust.record["dref"]["url"]["location"]
+    return d.name in ("location", "url wrote") and kept_location == locations[-1][:-1] or of_dinf(d)
 
 
 @of_class(79)
 def url_of_one_0(d):
     locations = [text(one.words[2]) for one in urls(d)] if d.kind == "dinf" and not d.ours.refused else []
-    return of_dinf(d) and bool(locations) and locations[-1] == b"\0"
+    return bool(locations) and locations[-1] == b"\0" and (d.name == "url wrote" or of_dinf(d))
 
 
 def in_dref(d, mine):
@@ -667,7 +681,7 @@ def reference_of_size_0(d):
 @of_class(80)
 def large_child(d):
     """A child whose size is in 64 bits: we write it again as it was."""
-    return (d.name == "wrote" and d.kind in ("edts", "dinf")
+    return (d.name == "wrote" and d.kind in ("edts", "dinf") and as_it_was(d)
             and any(boxes.number(d.data, place, 4) == 1 for place in
                     children(d)[0] + [place for place, part in (entries(d) if d.kind == "dinf" else []) if part]))
 

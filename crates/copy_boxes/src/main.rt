@@ -5,6 +5,8 @@
 // `same` where the box that is written is the one that was read, else `wrote` and its bytes, or `unwritten` with the
 // number and the detail.
 mod edit;
+mod event;
+mod hold;
 mod plain;
 mod run;
 mod say;
@@ -40,6 +42,12 @@ fn copy_known(kind: u32, part: &[u8], out: &mut [u8]) -> bool {
         return true;
     }
     if run::copy(kind, part, out) {
+        return true;
+    }
+    if event::copy(kind, part, out) {
+        return true;
+    }
+    if hold::copy(kind, part, out) {
         return true;
     }
     tail::copy(kind, part, out)
