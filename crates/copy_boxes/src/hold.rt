@@ -24,7 +24,8 @@ fn edts(part: &[u8], out: &mut [u8]) {
     match containers::edts::read(part) {
         containers::edts::Found::Refused(q) => say::refused(q),
         containers::edts::Found::Is(b) => {
-            place(b.elst);
+            let elst = b.elst;
+            place(elst);
             let put = containers::edts::write(containers::edts::content(part), out);
             say::written(put, part, out);
         }
@@ -35,7 +36,8 @@ fn dinf(part: &[u8], out: &mut [u8]) {
     match containers::dinf::read(part) {
         containers::dinf::Found::Refused(q) => say::refused(q),
         containers::dinf::Found::Is(b) => {
-            place(b.dref);
+            let dref = b.dref;
+            place(dref);
             let put = containers::dinf::write(containers::dinf::content(part), out);
             say::written(put, part, out);
         }
@@ -46,7 +48,8 @@ fn mvex(part: &[u8], out: &mut [u8]) {
     match containers::mvex::read(part) {
         containers::mvex::Found::Refused(q) => say::refused(q),
         containers::mvex::Found::Is(b) => {
-            place(b.trex);
+            let trex = b.trex;
+            place(trex);
             let put = containers::mvex::write(containers::mvex::content(part), out);
             say::written(put, part, out);
         }
@@ -57,8 +60,10 @@ fn moof(part: &[u8], out: &mut [u8]) {
     match containers::moof::read(part) {
         containers::moof::Found::Refused(q) => say::refused(q),
         containers::moof::Found::Is(b) => {
-            place(b.mfhd);
-            place(b.traf);
+            let mfhd = b.mfhd;
+            place(mfhd);
+            let traf = b.traf;
+            place(traf);
             let put = containers::moof::write(containers::moof::content(part), out);
             say::written(put, part, out);
         }
@@ -69,9 +74,12 @@ fn traf(part: &[u8], out: &mut [u8]) {
     match containers::traf::read(part) {
         containers::traf::Found::Refused(q) => say::refused(q),
         containers::traf::Found::Is(b) => {
-            place(b.tfhd);
-            place(b.tfdt);
-            place(b.trun);
+            let tfhd = b.tfhd;
+            place(tfhd);
+            let tfdt = b.tfdt;
+            place(tfdt);
+            let trun = b.trun;
+            place(trun);
             let put = containers::traf::write(containers::traf::content(part), out);
             say::written(put, part, out);
         }
