@@ -1,0 +1,33 @@
+use Prim.Native.Nat.{_-_}
+use borrow.Author.Needs.{needs}
+use Rattle.copy_boxes.proofs.edit.elst_entries.Statement.{statement}
+use Rattle.copy_boxes.proofs.edit.elst_entries.Tie as tie
+
+abbrev Inv-loop : tie.InvT-loop
+Inv-loop entries version n i₀ i = Unit {0}
+
+abbrev μ-loop : tie.MeasureT-loop
+μ-loop entries version n i₀ i = n - i
+
+loop-holds : tie.Need-loop-holds Inv-loop μ-loop
+loop-holds c = tt
+
+elst-entry-requires : tie.Need-elst-entry-requires Inv-loop μ-loop
+elst-entry-requires c κs = tt
+
+add-i : tie.Need-add-i Inv-loop μ-loop
+add-i c = search needs
+
+loop-less : tie.Need-loop-less Inv-loop μ-loop
+loop-less c = search needs
+
+loop-again : tie.Need-loop-again Inv-loop μ-loop
+loop-again c = tt
+
+returns : tie.Need-returns Inv-loop μ-loop
+returns c = tt
+
+pub elst-entries-spec : {M : Type 1} → statement M
+elst-entries-spec =
+    tie.close
+    (tie.spec Inv-loop μ-loop loop-holds elst-entry-requires add-i loop-less loop-again returns)
