@@ -51,6 +51,7 @@ class Box:
         self.data = data
         self.at, self.end = header(data)
         self.words, self.made = [], b""
+        self.plain = data[:4] == self.end.to_bytes(4, "big")  # the size stands in four bytes, and is not 0
 
     def take(self, width):
         if self.at + width > self.end:
@@ -73,7 +74,8 @@ class Box:
 
     def reserved(self, width):
         """Bytes that must be there and are written as zeros, whatever they were (A22)."""
-        self.take(width)
+        if any(self.take(width)):
+            self.plain = False
         self.made += bytes(width)
 
     def full(self, *versions):
@@ -224,7 +226,7 @@ def holder(box, *kinds):
         first.setdefault(box.data[at + 4:at + 8], at)
         at = after
     box.words += [first.get(kind, 0) for kind in kinds]
-    box.made += box.data[content:box.end]
+    box.made += box.take(box.end - content)
 
 
 def edts(box):  # 8.6.5
@@ -323,6 +325,8 @@ def told(data):
         reader(box)
     except Refused as fault:
         return ["refused", *fault.args], None
+    canonical = box.plain and box.at == box.end
+    box.words.append("canonical" if canonical else "other")
     made = (len(box.made) + 8).to_bytes(4, "big") + data[4:8] + box.made
     return box.words + (["same"] if made == data[:box.end] else ["wrote", made.hex()]), made
 

@@ -112,7 +112,7 @@ class Ours:
             self.refused = (int(words[1]), int(words[2]))
         else:
             self.wrote = data[:boxes.header(data)[1]] if words[-1] == "same" else bytes.fromhex(words[-1])
-            self.words = words[:-1] if words[-1] == "same" else words[:-2]
+            self.words = words[:-2] if words[-1] == "same" else words[:-3]  # without whether it is canonical
             self.words = [word if word[0] in "x[]" else int(word) for word in self.words]
 
     def table(self, first):

@@ -4,7 +4,7 @@ use crate::say;
 const ELST: u32 = 0x656c7374;
 
 fn elst_entry(entries: &[u8], version: u8, i: u32) {
-    if let edits::elst::Listed::Is(x) = edits::elst::entry(entries, version, i) {
+    if let elst::Listed::Is(x) = elst::entry(entries, version, i) {
         say::open();
         say::numbers(&[x.segment_duration]);
         say::signed(x.media_time);
@@ -31,13 +31,14 @@ fn bytes_of(version: u8, n: u32) -> usize {
 }
 
 fn elst(part: &[u8], out: &mut [u8]) {
-    match edits::elst::read(part) {
-        edits::elst::Found::Refused(q) => say::refused(q),
-        edits::elst::Found::Is(b, from) => {
+    match elst::read(part) {
+        elst::Found::Refused(q) => say::refused(q),
+        elst::Found::Is(b, from) => {
             say::numbers(&[b.version as u64, b.flags as u64, b.count as u64]);
             let entries = say::entries(part, from, bytes_of(b.version, b.count));
             elst_entries(entries, b.version, b.count);
-            let put = edits::elst::write(b, entries, out);
+            say::canonical(part, elst::KIND, elst::ROW, entries.len());
+            let put = elst::write(b, entries, out);
             say::written(put, part, out);
         }
     }

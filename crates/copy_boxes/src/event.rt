@@ -3,10 +3,18 @@ use crate::say;
 
 const EMSG: u32 = 0x656d7367;
 
+// How many bytes of a box lie behind its version and flags.
+fn behind(end: usize) -> usize {
+    if end < 12 {
+        return 0;
+    }
+    end - 12
+}
+
 fn emsg(part: &[u8], out: &mut [u8]) {
-    match events::emsg::read(part) {
-        events::emsg::Found::Refused(q) => say::refused(q),
-        events::emsg::Found::Is(b, _) => {
+    match emsg::read(part) {
+        emsg::Found::Refused(q) => say::refused(q),
+        emsg::Found::Is(b, p) => {
             say::numbers(
                 &[
                     b.version as u64,
@@ -16,13 +24,14 @@ fn emsg(part: &[u8], out: &mut [u8]) {
                 ],
             );
             say::two(b.event_duration, b.id);
-            let scheme = events::emsg::scheme(part);
-            let value = events::emsg::value(part);
-            let message = events::emsg::message(part);
+            let scheme = emsg::scheme(part);
+            let value = emsg::value(part);
+            let message = emsg::message(part);
             say::bytes(scheme);
             say::bytes(value);
             say::bytes(message);
-            let put = events::emsg::write(b, scheme, value, message, out);
+            say::canonical(part, emsg::KIND, emsg::ROW, behind(p.end));
+            let put = emsg::write(b, scheme, value, message, out);
             say::written(put, part, out);
         }
     }

@@ -2,6 +2,7 @@
 // children's bytes are written as they are, and stand in a pack as boxes of their own.
 use crate::say;
 use children::Place;
+use layout::Field;
 
 const EDTS: u32 = 0x65647473;
 
@@ -26,7 +27,9 @@ fn edts(part: &[u8], out: &mut [u8]) {
         containers::edts::Found::Is(b) => {
             let elst = b.elst;
             place(elst);
-            let put = containers::edts::write(containers::edts::content(part), out);
+            let content = containers::edts::content(part);
+            say::canonical(part, EDTS, [Field::Nothing; 24], content.len());
+            let put = containers::edts::write(content, out);
             say::written(put, part, out);
         }
     }
@@ -38,7 +41,9 @@ fn dinf(part: &[u8], out: &mut [u8]) {
         containers::dinf::Found::Is(b) => {
             let dref = b.dref;
             place(dref);
-            let put = containers::dinf::write(containers::dinf::content(part), out);
+            let content = containers::dinf::content(part);
+            say::canonical(part, DINF, [Field::Nothing; 24], content.len());
+            let put = containers::dinf::write(content, out);
             say::written(put, part, out);
         }
     }
@@ -50,7 +55,9 @@ fn mvex(part: &[u8], out: &mut [u8]) {
         containers::mvex::Found::Is(b) => {
             let trex = b.trex;
             place(trex);
-            let put = containers::mvex::write(containers::mvex::content(part), out);
+            let content = containers::mvex::content(part);
+            say::canonical(part, MVEX, [Field::Nothing; 24], content.len());
+            let put = containers::mvex::write(content, out);
             say::written(put, part, out);
         }
     }
@@ -64,7 +71,9 @@ fn moof(part: &[u8], out: &mut [u8]) {
             place(mfhd);
             let traf = b.traf;
             place(traf);
-            let put = containers::moof::write(containers::moof::content(part), out);
+            let content = containers::moof::content(part);
+            say::canonical(part, MOOF, [Field::Nothing; 24], content.len());
+            let put = containers::moof::write(content, out);
             say::written(put, part, out);
         }
     }
@@ -80,7 +89,9 @@ fn traf(part: &[u8], out: &mut [u8]) {
             place(tfdt);
             let trun = b.trun;
             place(trun);
-            let put = containers::traf::write(containers::traf::content(part), out);
+            let content = containers::traf::content(part);
+            say::canonical(part, TRAF, [Field::Nothing; 24], content.len());
+            let put = containers::traf::write(content, out);
             say::written(put, part, out);
         }
     }

@@ -1,9 +1,9 @@
 // Reads every box of the packs that the arguments name, writes it again, and tells both: a line for each box.
 // A pack is a row of entries: a length in four bytes, the highest first, and as many bytes, a box from its header on.
 // A line has the box's type, then `unknown` where no reader here is for it; or `refused` with the number and the
-// position; or the fields in their order, each entry of a table in brackets, bytes as an x and their digits, and then
-// `same` where the box that is written is the one that was read, else `wrote` and its bytes, or `unwritten` with the
-// number and the detail.
+// position; or the fields in their order, each entry of a table in brackets, bytes as an x and their digits, whether the
+// box is canonical (its own size and fields; its children are boxes of their own), and then `same` where the box that
+// is written is the one that was read, else `wrote` and its bytes, or `unwritten` with the number and the detail.
 mod edit;
 mod event;
 mod hold;

@@ -13,7 +13,7 @@ const TFHD: u32 = 0x74666864;
 
 const TFDT: u32 = 0x74666474;
 
-fn tkhd_times(b: tracks::tkhd::Tkhd) {
+fn tkhd_times(b: tkhd::Tkhd) {
     say::numbers(
         &[
             b.version as u64,
@@ -26,34 +26,35 @@ fn tkhd_times(b: tracks::tkhd::Tkhd) {
     );
 }
 
-fn tkhd_place(b: tracks::tkhd::Tkhd) {
+fn tkhd_place(b: tkhd::Tkhd) {
     say::numbers(&[b.layer as u64, b.alternate_group as u64, b.volume as u64]);
 }
 
-fn tkhd_matrix(b: tracks::tkhd::Tkhd) {
+fn tkhd_matrix(b: tkhd::Tkhd) {
     say::three(b.matrix_a, b.matrix_b, b.matrix_u);
     say::three(b.matrix_c, b.matrix_d, b.matrix_v);
     say::three(b.matrix_x, b.matrix_y, b.matrix_w);
 }
 
 fn tkhd(part: &[u8], out: &mut [u8]) {
-    match tracks::tkhd::read(part) {
-        tracks::tkhd::Found::Refused(q) => say::refused(q),
-        tracks::tkhd::Found::Is(b) => {
+    match tkhd::read(part) {
+        tkhd::Found::Refused(q) => say::refused(q),
+        tkhd::Found::Is(b) => {
             tkhd_times(b);
             tkhd_place(b);
             tkhd_matrix(b);
             say::two(b.width, b.height);
-            let put = tracks::tkhd::write(b, out);
+            say::canonical(part, tkhd::KIND, tkhd::ROW, 0);
+            let put = tkhd::write(b, out);
             say::written(put, part, out);
         }
     }
 }
 
 fn mdhd(part: &[u8], out: &mut [u8]) {
-    match movie::mdhd::read(part) {
-        movie::mdhd::Found::Refused(q) => say::refused(q),
-        movie::mdhd::Found::Is(b) => {
+    match mdhd::read(part) {
+        mdhd::Found::Refused(q) => say::refused(q),
+        mdhd::Found::Is(b) => {
             say::numbers(
                 &[
                     b.version as u64,
@@ -65,16 +66,17 @@ fn mdhd(part: &[u8], out: &mut [u8]) {
                     b.language as u64,
                 ],
             );
-            let put = movie::mdhd::write(b, out);
+            say::canonical(part, mdhd::KIND, mdhd::ROW, 0);
+            let put = mdhd::write(b, out);
             say::written(put, part, out);
         }
     }
 }
 
 fn trex(part: &[u8], out: &mut [u8]) {
-    match movie::trex::read(part) {
-        movie::trex::Found::Refused(q) => say::refused(q),
-        movie::trex::Found::Is(b) => {
+    match trex::read(part) {
+        trex::Found::Refused(q) => say::refused(q),
+        trex::Found::Is(b) => {
             say::numbers(
                 &[
                     b.version as u64,
@@ -86,27 +88,29 @@ fn trex(part: &[u8], out: &mut [u8]) {
                     b.default_sample_flags as u64,
                 ],
             );
-            let put = movie::trex::write(b, out);
+            say::canonical(part, trex::KIND, trex::ROW, 0);
+            let put = trex::write(b, out);
             say::written(put, part, out);
         }
     }
 }
 
 fn mfhd(part: &[u8], out: &mut [u8]) {
-    match fragments::mfhd::read(part) {
-        fragments::mfhd::Found::Refused(q) => say::refused(q),
-        fragments::mfhd::Found::Is(b) => {
+    match mfhd::read(part) {
+        mfhd::Found::Refused(q) => say::refused(q),
+        mfhd::Found::Is(b) => {
             say::numbers(&[b.version as u64, b.flags as u64, b.sequence_number as u64]);
-            let put = fragments::mfhd::write(b, out);
+            say::canonical(part, mfhd::KIND, mfhd::ROW, 0);
+            let put = mfhd::write(b, out);
             say::written(put, part, out);
         }
     }
 }
 
 fn tfhd(part: &[u8], out: &mut [u8]) {
-    match fragments::tfhd::read(part) {
-        fragments::tfhd::Found::Refused(q) => say::refused(q),
-        fragments::tfhd::Found::Is(b) => {
+    match tfhd::read(part) {
+        tfhd::Found::Refused(q) => say::refused(q),
+        tfhd::Found::Is(b) => {
             say::numbers(
                 &[
                     b.version as u64,
@@ -119,18 +123,20 @@ fn tfhd(part: &[u8], out: &mut [u8]) {
                     b.default_sample_flags as u64,
                 ],
             );
-            let put = fragments::tfhd::write(b, out);
+            say::canonical(part, tfhd::KIND, tfhd::ROW, 0);
+            let put = tfhd::write(b, out);
             say::written(put, part, out);
         }
     }
 }
 
 fn tfdt(part: &[u8], out: &mut [u8]) {
-    match fragments::tfdt::read(part) {
-        fragments::tfdt::Found::Refused(q) => say::refused(q),
-        fragments::tfdt::Found::Is(b) => {
+    match tfdt::read(part) {
+        tfdt::Found::Refused(q) => say::refused(q),
+        tfdt::Found::Is(b) => {
             say::numbers(&[b.version as u64, b.flags as u64, b.base_media_decode_time]);
-            let put = fragments::tfdt::write(b, out);
+            say::canonical(part, tfdt::KIND, tfdt::ROW, 0);
+            let put = tfdt::write(b, out);
             say::written(put, part, out);
         }
     }

@@ -1,21 +1,21 @@
 // The run of a fragment, whose samples have the values that its flags say.
 ghost use Prim.Native.Nat.{_≤_};
 use crate::say;
-use runs::trun::DataOffset;
-use runs::trun::Listed;
-use runs::trun::Trun;
+use trun::DataOffset;
+use trun::Listed;
+use trun::Trun;
 
 const TRUN: u32 = 0x7472756e;
 
 fn trun_offset(b: Trun) {
-    match runs::trun::offset_of(b) {
+    match trun::offset_of(b) {
         DataOffset::Absent => say::signed(0),
         DataOffset::Is(n) => say::signed(n),
     }
 }
 
 fn trun_entry(b: Trun, entries: &[u8], i: u32) {
-    if let Listed::Is(x) = runs::trun::entry(b, entries, i) {
+    if let Listed::Is(x) = trun::entry(b, entries, i) {
         say::open();
         say::three(x.duration, x.size, x.flags);
         say::signed(x.composition_offset);
@@ -52,15 +52,16 @@ fn bytes_of(flags: u32, n: u32) -> usize {
 }
 
 fn trun(part: &[u8], out: &mut [u8]) {
-    match runs::trun::read(part) {
-        runs::trun::Found::Refused(q) => say::refused(q),
-        runs::trun::Found::Is(b, from) => {
+    match trun::read(part) {
+        trun::Found::Refused(q) => say::refused(q),
+        trun::Found::Is(b, from) => {
             say::numbers(&[b.version as u64, b.flags as u64, b.sample_count as u64]);
             trun_offset(b);
             say::one(b.first_sample_flags);
             let entries = say::entries(part, from, bytes_of(b.flags, b.sample_count));
             trun_entries(b, entries, listed(b.flags, b.sample_count));
-            let put = runs::trun::write(b, entries, out);
+            say::canonical(part, trun::KIND, trun::ROW, entries.len());
+            let put = trun::write(b, entries, out);
             say::written(put, part, out);
         }
     }

@@ -1,6 +1,8 @@
 // The words of a line: each begins with a space.
+use layout::Field;
 use libc::STDOUT_FILENO;
 use numbers::Refusal;
+use numbers::U32;
 use put::Put;
 
 pub(crate) fn text(s: &[u8]) {
@@ -120,6 +122,23 @@ fn compared(part: &[u8], written: &[u8]) {
     } else {
         text(b" wrote ");
         digits(written);
+    }
+}
+
+// The bytes of a box alone, without those behind it; none where its size is not in its first four bytes.
+fn alone(part: &[u8]) -> &[u8] {
+    match numbers::u32_at(part, 0) {
+        U32::Is(size) => entries(part, 0, size as usize),
+        U32::Refused(_) => &part[..0],
+    }
+}
+
+// Whether a box that was read is as we write it, with so many bytes behind its fields.
+pub(crate) fn canonical(part: &[u8], kind: u32, row: [Field; 24], rest: usize) {
+    if layout::canonical::by(alone(part), kind, row, rest as u64) {
+        text(b" canonical");
+    } else {
+        text(b" other");
     }
 }
 

@@ -19,7 +19,7 @@ const CO64: u32 = 0x636f3634;
 const STSZ: u32 = 0x7374737a;
 
 fn stts_entry(entries: &[u8], i: u32) {
-    if let timetables::stts::Listed::Is(x) = timetables::stts::entry(entries, i) {
+    if let stts::Listed::Is(x) = stts::entry(entries, i) {
         say::open();
         say::numbers(&[x.sample_count as u64, x.sample_delta as u64]);
         say::close();
@@ -35,20 +35,21 @@ fn stts_entries(entries: &[u8], n: u32) {
 }
 
 fn stts(part: &[u8], out: &mut [u8]) {
-    match timetables::stts::read(part) {
-        timetables::stts::Found::Refused(q) => say::refused(q),
-        timetables::stts::Found::Is(b, from) => {
+    match stts::read(part) {
+        stts::Found::Refused(q) => say::refused(q),
+        stts::Found::Is(b, from) => {
             say::numbers(&[b.version as u64, b.flags as u64, b.count as u64]);
             let entries = say::entries(part, from, (b.count as usize) * 8);
             stts_entries(entries, b.count);
-            let put = timetables::stts::write(b, entries, out);
+            say::canonical(part, stts::KIND, stts::ROW, entries.len());
+            let put = stts::write(b, entries, out);
             say::written(put, part, out);
         }
     }
 }
 
 fn ctts_entry(entries: &[u8], i: u32) {
-    if let timetables::ctts::Listed::Is(x) = timetables::ctts::entry(entries, i) {
+    if let ctts::Listed::Is(x) = ctts::entry(entries, i) {
         say::open();
         say::numbers(&[x.sample_count as u64]);
         say::signed32(x.sample_offset);
@@ -65,20 +66,21 @@ fn ctts_entries(entries: &[u8], n: u32) {
 }
 
 fn ctts(part: &[u8], out: &mut [u8]) {
-    match timetables::ctts::read(part) {
-        timetables::ctts::Found::Refused(q) => say::refused(q),
-        timetables::ctts::Found::Is(b, from) => {
+    match ctts::read(part) {
+        ctts::Found::Refused(q) => say::refused(q),
+        ctts::Found::Is(b, from) => {
             say::numbers(&[b.version as u64, b.flags as u64, b.count as u64]);
             let entries = say::entries(part, from, (b.count as usize) * 8);
             ctts_entries(entries, b.count);
-            let put = timetables::ctts::write(b, entries, out);
+            say::canonical(part, ctts::KIND, ctts::ROW, entries.len());
+            let put = ctts::write(b, entries, out);
             say::written(put, part, out);
         }
     }
 }
 
 fn stsc_entry(entries: &[u8], i: u32) {
-    if let ruled::stsc::Listed::Is(x) = ruled::stsc::entry(entries, i) {
+    if let stsc::Listed::Is(x) = stsc::entry(entries, i) {
         say::open();
         say::numbers(
             &[
@@ -100,20 +102,21 @@ fn stsc_entries(entries: &[u8], n: u32) {
 }
 
 fn stsc(part: &[u8], out: &mut [u8]) {
-    match ruled::stsc::read(part) {
-        ruled::stsc::Found::Refused(q) => say::refused(q),
-        ruled::stsc::Found::Is(b, from) => {
+    match stsc::read(part) {
+        stsc::Found::Refused(q) => say::refused(q),
+        stsc::Found::Is(b, from) => {
             say::numbers(&[b.version as u64, b.flags as u64, b.count as u64]);
             let entries = say::entries(part, from, (b.count as usize) * 12);
             stsc_entries(entries, b.count);
-            let put = ruled::stsc::write(b, entries, out);
+            say::canonical(part, stsc::KIND, stsc::ROW, entries.len());
+            let put = stsc::write(b, entries, out);
             say::written(put, part, out);
         }
     }
 }
 
 fn stss_entry(entries: &[u8], i: u32) {
-    if let U32::Is(x) = ruled::stss::entry(entries, i) {
+    if let U32::Is(x) = stss::entry(entries, i) {
         say::open();
         say::numbers(&[x as u64]);
         say::close();
@@ -129,20 +132,21 @@ fn stss_entries(entries: &[u8], n: u32) {
 }
 
 fn stss(part: &[u8], out: &mut [u8]) {
-    match ruled::stss::read(part) {
-        ruled::stss::Found::Refused(q) => say::refused(q),
-        ruled::stss::Found::Is(b, from) => {
+    match stss::read(part) {
+        stss::Found::Refused(q) => say::refused(q),
+        stss::Found::Is(b, from) => {
             say::numbers(&[b.version as u64, b.flags as u64, b.count as u64]);
             let entries = say::entries(part, from, (b.count as usize) * 4);
             stss_entries(entries, b.count);
-            let put = ruled::stss::write(b, entries, out);
+            say::canonical(part, stss::KIND, stss::ROW, entries.len());
+            let put = stss::write(b, entries, out);
             say::written(put, part, out);
         }
     }
 }
 
 fn stco_entry(entries: &[u8], i: u32) {
-    if let U32::Is(x) = chunks::stco::entry(entries, i) {
+    if let U32::Is(x) = stco::entry(entries, i) {
         say::open();
         say::numbers(&[x as u64]);
         say::close();
@@ -158,20 +162,21 @@ fn stco_entries(entries: &[u8], n: u32) {
 }
 
 fn stco(part: &[u8], out: &mut [u8]) {
-    match chunks::stco::read(part) {
-        chunks::stco::Found::Refused(q) => say::refused(q),
-        chunks::stco::Found::Is(b, from) => {
+    match stco::read(part) {
+        stco::Found::Refused(q) => say::refused(q),
+        stco::Found::Is(b, from) => {
             say::numbers(&[b.version as u64, b.flags as u64, b.count as u64]);
             let entries = say::entries(part, from, (b.count as usize) * 4);
             stco_entries(entries, b.count);
-            let put = chunks::stco::write(b, entries, out);
+            say::canonical(part, stco::KIND, stco::ROW, entries.len());
+            let put = stco::write(b, entries, out);
             say::written(put, part, out);
         }
     }
 }
 
 fn co64_entry(entries: &[u8], i: u32) {
-    if let U64::Is(x) = chunks::co64::entry(entries, i) {
+    if let U64::Is(x) = co64::entry(entries, i) {
         say::open();
         say::numbers(&[x]);
         say::close();
@@ -187,13 +192,14 @@ fn co64_entries(entries: &[u8], n: u32) {
 }
 
 fn co64(part: &[u8], out: &mut [u8]) {
-    match chunks::co64::read(part) {
-        chunks::co64::Found::Refused(q) => say::refused(q),
-        chunks::co64::Found::Is(b, from) => {
+    match co64::read(part) {
+        co64::Found::Refused(q) => say::refused(q),
+        co64::Found::Is(b, from) => {
             say::numbers(&[b.version as u64, b.flags as u64, b.count as u64]);
             let entries = say::entries(part, from, (b.count as usize) * 8);
             co64_entries(entries, b.count);
-            let put = chunks::co64::write(b, entries, out);
+            say::canonical(part, co64::KIND, co64::ROW, entries.len());
+            let put = co64::write(b, entries, out);
             say::written(put, part, out);
         }
     }
@@ -205,7 +211,7 @@ fn listed(common: u32, count: u32) -> u32 {
 }
 
 fn stsz_entry(entries: &[u8], i: u32) {
-    if let U32::Is(x) = sizes::stsz::entry(entries, i) {
+    if let U32::Is(x) = stsz::entry(entries, i) {
         say::open();
         say::numbers(&[x as u64]);
         say::close();
@@ -221,9 +227,9 @@ fn stsz_entries(entries: &[u8], n: u32) {
 }
 
 fn stsz(part: &[u8], out: &mut [u8]) {
-    match sizes::stsz::read(part) {
-        sizes::stsz::Found::Refused(q) => say::refused(q),
-        sizes::stsz::Found::Is(b, from) => {
+    match stsz::read(part) {
+        stsz::Found::Refused(q) => say::refused(q),
+        stsz::Found::Is(b, from) => {
             say::numbers(
                 &[
                     b.version as u64,
@@ -235,7 +241,8 @@ fn stsz(part: &[u8], out: &mut [u8]) {
             let n = listed(b.sample_size, b.count);
             let entries = say::entries(part, from, (n as usize) * 4);
             stsz_entries(entries, n);
-            let put = sizes::stsz::write(b, entries, out);
+            say::canonical(part, stsz::KIND, stsz::ROW, entries.len());
+            let put = stsz::write(b, entries, out);
             say::written(put, part, out);
         }
     }

@@ -10,52 +10,56 @@ const DREF: u32 = 0x64726566;
 const STSD: u32 = 0x73747364;
 
 fn hdlr(part: &[u8], out: &mut [u8]) {
-    match handlers::hdlr::read(part) {
-        handlers::hdlr::Found::Refused(q) => say::refused(q),
-        handlers::hdlr::Found::Is(b) => {
+    match hdlr::read(part) {
+        hdlr::Found::Refused(q) => say::refused(q),
+        hdlr::Found::Is(b) => {
             say::numbers(&[b.version as u64, b.flags as u64, b.handler_type as u64]);
-            let name = handlers::hdlr::name(part);
+            let name = hdlr::name(part);
             say::bytes(name);
-            let put = handlers::hdlr::write(b, name, out);
+            say::canonical(part, hdlr::KIND, hdlr::ROW, name.len());
+            let put = hdlr::write(b, name, out);
             say::written(put, part, out);
         }
     }
 }
 
 fn url(part: &[u8], out: &mut [u8]) {
-    match references::url::read(part) {
-        references::url::Found::Refused(q) => say::refused(q),
-        references::url::Found::Is(b) => {
+    match url::read(part) {
+        url::Found::Refused(q) => say::refused(q),
+        url::Found::Is(b) => {
             say::numbers(&[b.version as u64, b.flags as u64]);
-            let location = references::url::location(part);
+            let location = url::location(part);
             say::bytes(location);
-            let put = references::url::write(b, location, out);
+            say::canonical(part, url::KIND, url::ROW, location.len());
+            let put = url::write(b, location, out);
             say::written(put, part, out);
         }
     }
 }
 
 fn dref(part: &[u8], out: &mut [u8]) {
-    match references::dref::read(part) {
-        references::dref::Found::Refused(q) => say::refused(q),
-        references::dref::Found::Is(b) => {
+    match dref::read(part) {
+        dref::Found::Refused(q) => say::refused(q),
+        dref::Found::Is(b) => {
             say::numbers(&[b.version as u64, b.flags as u64, b.count as u64]);
-            let entries = references::dref::entries(part);
+            let entries = dref::entries(part);
             say::bytes(entries);
-            let put = references::dref::write(b, entries, out);
+            say::canonical(part, dref::KIND, dref::ROW, entries.len());
+            let put = dref::write(b, entries, out);
             say::written(put, part, out);
         }
     }
 }
 
 fn stsd(part: &[u8], out: &mut [u8]) {
-    match descriptions::stsd::read(part) {
-        descriptions::stsd::Found::Refused(q) => say::refused(q),
-        descriptions::stsd::Found::Is(b) => {
+    match stsd::read(part) {
+        stsd::Found::Refused(q) => say::refused(q),
+        stsd::Found::Is(b) => {
             say::numbers(&[b.version as u64, b.flags as u64, b.count as u64]);
-            let entries = descriptions::stsd::entries(part);
+            let entries = stsd::entries(part);
             say::bytes(entries);
-            let put = descriptions::stsd::write(b, entries, out);
+            say::canonical(part, stsd::KIND, stsd::ROW, entries.len());
+            let put = stsd::write(b, entries, out);
             say::written(put, part, out);
         }
     }

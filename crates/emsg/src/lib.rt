@@ -58,9 +58,9 @@ pub(crate) enum Numbers {
     Refused(Refusal),
 }
 
-const KIND: u32 = 0x656d7367;
+pub const KIND: u32 = 0x656d7367;
 
-const ROW: [Field; 24] = [
+pub const ROW: [Field; 24] = [
     Field::Version(0, 1),
     Field::Flags,
     Field::Nothing,
