@@ -23,6 +23,11 @@ use Rattle.layout.specs.declared.rule.Rule.{Rule}
 use Rattle.layout.proofs.Cases.{range}
 use Rattle.layout.proofs.Exact.{exact-step}
 use Rattle.rounds.proofs.Round.{lay-made}
+use Rattle.layout.specs.Table.{writeTable}
+use Rattle.rows.specs.Judge.{writeJudged}
+use Rattle.rows.specs.declared.Judged.{Judged}
+use Rattle.rounds.proofs.TableBoxes.{as-many}
+use Rattle.rounds.proofs.JudgedBoxes.{sound}
 use Rattle.rounds.proofs.Boxes.{joined, are-bytes, written-box}
 
 both : (t x : Bool) → when t x false ≡ true → (t ≡ true) × (x ≡ true)
@@ -139,3 +144,15 @@ module _ (kind : ℕ) (fs : List Field) (xs tail buf : List ℕ) (k : ℕ) (out 
       let r = written-box kind fs xs tail buf k out hk w in
       decided kind fs (length tail) (take k out) writes-canonical
       (subst Bytes (sym (r .shape)) (joined (r .head) (r .fields ++ tail) (r .byte) (joined (r .fields) tail (laid-bytes fs xs 0 0 0 (r .fields) (r .coded)) h)))
+
+-- the same of a writer of a table, and of one whose entries are judged: as many bytes follow as the count asks for
+module _ (kind : ℕ) (fs : List Field) (xs : List ℕ) (size : ℕ) (rows buf : List ℕ) (k : ℕ) (out : List ℕ) (hk : kind < 4294967296) where
+  pub table-writes-canonical : writeTable kind fs xs size rows buf ≡ wrote (Done k) out → canonicalOf kind fs size (take k out) ≡ true
+  table-writes-canonical w =
+      let p = as-many kind fs xs size rows buf k out w in
+      ap (λ n. canonicalOf kind fs n (take k out)) (sym (p .0)) ∙ writes-canonical kind fs xs rows buf k out hk (p .1)
+
+  pub judged-writes-canonical : (v : Judged) → writeJudged kind fs xs size v rows buf ≡ wrote (Done k) out → canonicalOf kind fs size (take k out) ≡ true
+  judged-writes-canonical v w =
+      let p = sound kind fs xs size v rows buf k out w in
+      ap (λ n. canonicalOf kind fs n (take k out)) (sym (p .0)) ∙ writes-canonical kind fs xs rows buf k out hk (p .2)
