@@ -179,13 +179,15 @@ module _ (f : List ℕ) (o : Optional) (i n : ℕ) where
       pub sync-hit : x ≡ n → (true ≡ flagOf (syncsLeft f o i) n) × (syncsLeft f o (i + 1) ≡ pastOf (syncsLeft f o i) n)
       unfolding when
       sync-hit q =
-          let b : eqb x n ≡ true = eq-eqb x n q in
-          (sym (ap (λ (y : Syncs). flagOf y n) here ∙ b),
-          then ∙ sym (ap (λ (y : Syncs). pastOf y n) here ∙ ap (λ (a : Bool). those (when a (drop (i + 1) (numbers f t)) (x ∷ drop (i + 1) (numbers f t)))) b))
+          let b : eqb x n ≡ true = eq-eqb x n q in (
+            sym (ap (λ (y : Syncs). flagOf y n) here ∙ b),
+            then ∙ sym (ap (λ (y : Syncs). pastOf y n) here ∙ ap (λ (a : Bool). those (when a (drop (i + 1) (numbers f t)) (x ∷ drop (i + 1) (numbers f t)))) b),
+          )
 
       pub sync-miss : (x ≡ n → ⊥) → (false ≡ flagOf (syncsLeft f o i) n) × (syncsLeft f o i ≡ pastOf (syncsLeft f o i) n)
       unfolding when
       sync-miss q =
-          let b : eqb x n ≡ false = ne-eqb x n q in
-          (sym (ap (λ (y : Syncs). flagOf y n) here ∙ b),
-          here ∙ sym (ap (λ (y : Syncs). pastOf y n) here ∙ ap (λ (a : Bool). those (when a (drop (i + 1) (numbers f t)) (x ∷ drop (i + 1) (numbers f t)))) b))
+          let b : eqb x n ≡ false = ne-eqb x n q in (
+            sym (ap (λ (y : Syncs). flagOf y n) here ∙ b),
+            here ∙ sym (ap (λ (y : Syncs). pastOf y n) here ∙ ap (λ (a : Bool). those (when a (drop (i + 1) (numbers f t)) (x ∷ drop (i + 1) (numbers f t)))) b),
+          )

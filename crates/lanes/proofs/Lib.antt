@@ -2,3 +2,8 @@ pub mod Words
 pub mod Lists
 pub mod Cases
 pub mod Heads
+pub mod Left
+pub mod Views
+pub mod Flags
+mod Unique
+mod Vectors
