@@ -11,8 +11,8 @@ use Rattle.numbers.specs.Field.{when}
 use Rattle.signed.specs.Signed.{signed}
 use Rattle.lanes.specs.Tables.{pairs, groups, chunks, sizes, sizeAt}
 use Rattle.lanes.specs.Samples.{firstOr, rest, flagOf, pastOf, zipped}
-use Rattle.lanes.specs.Lane.{runsLeft, placesAt, placesLeft, shiftsLeft, syncsLeft, sizesLeft, left, held, View, none, over, one, view, shows}
-use Rattle.lanes.specs.Rows.{pairRows, groupRows, rowsOf, toldRuns, toldPlace}
+use Rattle.lanes.specs.Lane.{runsLeft, placesAt, placesLeft, shiftsLeft, syncsLeft, sizesLeft, left, View, none, over, one, view, shows}
+use Rattle.lanes.specs.Rows.{pairRows, groupRows, rowsOf, toldRuns, toldPlace, samplesFrom}
 use Rattle.lanes.specs.declared.Rows.{Rows}
 use Rattle.lanes.specs.declared.Row.{Row}
 use Rattle.lanes.specs.declared.Runs.{Runs}
@@ -93,48 +93,32 @@ module _ (f : List ℕ) (t : Track) (l : Lane) where
             sym (ap view (left-is (z ∷ later) (d ∷ runsLeft (pairs f (t .stts)) c′) [] these lasts
             (sym lie ∙ ap (λ (k : PlaceStep). toldPlace perChunk (chunks f (t .stco)) k z later) w)))
 
-        module _ (p : Place) (w : q ≡ place.At p) where
-          abbrev first : Sample
-          first = record {
-            number = l .done + 1;
-            offset = p .at;
-            size = z;
-            time = l .time;
-            duration = d;
-            composition = signed 4 (firstOr 0 composed);
-            sync = flagOf (syncsLeft f (t .stss) (l .syncs)) (l .done + 1);
-          }
+        pub gives : (p : Place) → q ≡ place.At p → (r : Taken)
+            → shows f t r ≡ view (samplesFrom f t l (l .done + 1) z d c′ p) → shows f t r ≡ view (left f t l)
+        unfolding samplesFrom
+        gives p w r x =
+            x ∙ sym (ap view (left-is (z ∷ later) (d ∷ runsLeft (pairs f (t .stts)) c′)
+            (p .at ∷ placesAt perChunk (chunks f (t .stco)) (p .left) (p .at + z) (p .chunk) (p .groups) later) these lasts
+            (sym lie ∙ ap (λ (k : PlaceStep). toldPlace perChunk (chunks f (t .stco)) k z later) w)))
 
-          abbrev behind : List Sample
-          behind =
-              zipped (l .done + 1) (l .time + d) later (runsLeft (pairs f (t .stts)) c′)
-              (placesAt perChunk (chunks f (t .stco)) (p .left) (p .at + z) (p .chunk) (p .groups) later)
-              (rest composed) (pastOf (syncsLeft f (t .stss) (l .syncs)) (l .done + 1))
+-- the sample that is given
 
-          cut : left f t l ≡ first ∷ behind
-          cut =
-              left-is (z ∷ later) (d ∷ runsLeft (pairs f (t .stts)) c′)
-              (p .at ∷ placesAt perChunk (chunks f (t .stco)) (p .left) (p .at + z) (p .chunk) (p .groups) later) these lasts
-              (sym lie ∙ ap (λ (k : PlaceStep). toldPlace perChunk (chunks f (t .stco)) k z later) w)
+module _ (f : List ℕ) (t : Track) (l : Lane) (n z d : ℕ) (c : Runs) (p : Place) where
+  pub over-end : 2 ^ 64 ≤ p .at + z → over ≡ view (samplesFrom f t l n z d c p)
+  unfolding samplesFrom when
+  over-end k = rw (le-ltb (p .at + z) (2 ^ 64) k)
 
-          by-held : (b : Bool) → held first ≡ b → when b (one first behind) over ≡ view (left f t l)
-          by-held b k = sym (ap view cut ∙ ap (λ (x : Bool). when x (one first behind) over) k)
+  pub over-time : 2 ^ 63 ≤ l .time → over ≡ view (samplesFrom f t l n z d c p)
+  unfolding samplesFrom when
+  over-time k = rw (le-ltb (l .time) (2 ^ 63) k, and-false)
 
-          pub over-end : 2 ^ 64 ≤ p .at + z → over ≡ view (left f t l)
-          unfolding when
-          over-end k = by-held false (rw (le-ltb (p .at + z) (2 ^ 64) k))
-
-          pub over-time : 2 ^ 63 ≤ l .time → over ≡ view (left f t l)
-          unfolding when
-          over-time k = by-held false (rw (le-ltb (l .time) (2 ^ 63) k, and-false))
-
-          pub takes : (v : ℕ) (rs : Runs) (b : Bool) (n : ℕ) (co : ℤ) → p .at + z < 2 ^ 64 → l .time < 2 ^ 63
-              → v ≡ firstOr 0 composed → shiftsLeft f (t .ctts) rs ≡ rest composed
-              → b ≡ flagOf (syncsLeft f (t .stss) (l .syncs)) (l .done + 1) → syncsLeft f (t .stss) n ≡ pastOf (syncsLeft f (t .stss) (l .syncs)) (l .done + 1)
-              → co ≡ signed 4 v
-              → shows f t (taken.One
-              (record { number = l .done + 1; offset = p .at; size = z; time = l .time; duration = d; composition = co; sync = b })
-              (record { done = l .done + 1; time = l .time + d; times = c′; shifts = rs; syncs = n; place = record { left = p .left; at = p .at + z; chunk = p .chunk; groups = p .groups } }))
-              ≡ view (left f t l)
-          unfolding left when
-          takes v rs b n co k m ev er eb en ec = rw (ec, ev, er, eb, en) (by-held true (rw (lt-ltb (p .at + z) (2 ^ 64) k, lt-ltb (l .time) (2 ^ 63) m)))
+  pub takes : (v : ℕ) (rs : Runs) (b : Bool) (i : ℕ) (co : ℤ) → p .at + z < 2 ^ 64 → l .time < 2 ^ 63
+      → v ≡ firstOr 0 (shiftsLeft f (t .ctts) (l .shifts)) → shiftsLeft f (t .ctts) rs ≡ rest (shiftsLeft f (t .ctts) (l .shifts))
+      → b ≡ flagOf (syncsLeft f (t .stss) (l .syncs)) n → syncsLeft f (t .stss) i ≡ pastOf (syncsLeft f (t .stss) (l .syncs)) n
+      → co ≡ signed 4 v
+      → shows f t (taken.One
+      (record { number = n; offset = p .at; size = z; time = l .time; duration = d; composition = co; sync = b })
+      (record { done = n; time = l .time + d; times = c; shifts = rs; syncs = i; place = record { left = p .left; at = p .at + z; chunk = p .chunk; groups = p .groups } }))
+      ≡ view (samplesFrom f t l n z d c p)
+  unfolding left samplesFrom when
+  takes v rs b i co k m ev er eb en ec = rw (ec, ev, er, eb, en, lt-ltb (p .at + z) (2 ^ 64) k, lt-ltb (l .time) (2 ^ 63) m)

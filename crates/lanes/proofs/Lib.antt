@@ -5,5 +5,5 @@ pub mod Heads
 pub mod Left
 pub mod Views
 pub mod Flags
-mod Unique
 mod Vectors
+mod Unique

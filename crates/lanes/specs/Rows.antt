@@ -3,13 +3,21 @@
 use Prim.Native.Nat.{ℕ, zero, suc, _+_, _-_, _*_}
 use mathlib.Core.List.{List, [], _∷_}
 use mathlib.Core.Bool.{Bool, true, false}
+use lib.ListN.{drop}
 use lib.Dec.{ltb}
 use Rattle.numbers.specs.Field.{when, orZero}
-use Rattle.lanes.specs.Tables.{listed, pairAt, groupAt}
-use Rattle.lanes.specs.Lane.{runsAt, runsLeft, placesAt}
+use Rattle.signed.specs.Signed.{signed}
+use Rattle.lanes.specs.Tables.{listed, pairAt, pairs, groups, chunks, sizes}
+use Rattle.lanes.specs.Samples.{firstOr, rest, flagOf, pastOf, zipped}
+use Rattle.lanes.specs.Lane.{runsLeft, placesAt, shiftsLeft, syncsLeft}
 use Rattle.lanes.specs.declared.Table.{Table}
 use Rattle.lanes.specs.declared.Rows.{Rows}
 use Rattle.lanes.specs.declared.Row.{Row}
+use Rattle.lanes.specs.declared.Runs.{Runs}
+use Rattle.lanes.specs.declared.Place.{Place}
+use Rattle.lanes.specs.declared.Track.{Track}
+use Rattle.lanes.specs.declared.Sample.{Sample}
+use Rattle.lanes.specs.declared.Lane.{Lane}
 use Rattle.lanes.specs.declared.RunStep.{RunStep}
 use Rattle.lanes.specs.declared.RunStep.the-variants as run
 use Rattle.lanes.specs.declared.PlaceStep.{PlaceStep}
@@ -45,3 +53,19 @@ toldRuns rs run.End = []
 abbrev pub toldPlace : List Row → List ℕ → PlaceStep → ℕ → List ℕ → List ℕ
 toldPlace rs cs (place.At p) z ss = p .at ∷ placesAt rs cs (p .left) (p .at + z) (p .chunk) (p .groups) ss
 toldPlace rs cs place.End z ss = []
+
+-- the samples from sample n on, where it has size z and lasts d, is at p's place, and c has the durations after it
+unfoldable pub samplesFrom : List ℕ → Track → Lane → ℕ → ℕ → ℕ → Runs → Place → List Sample
+samplesFrom f t l n z d c p =
+    record {
+      number = n;
+      offset = p .at;
+      size = z;
+      time = l .time;
+      duration = d;
+      composition = signed 4 (firstOr 0 (shiftsLeft f (t .ctts) (l .shifts)));
+      sync = flagOf (syncsLeft f (t .stss) (l .syncs)) n;
+    }
+    ∷ zipped n (l .time + d) (drop n (sizes f (t .stsz))) (runsLeft (pairs f (t .stts)) c)
+    (placesAt (groups f (t .stsc) (t .stco .count)) (chunks f (t .stco)) (p .left) (p .at + z) (p .chunk) (p .groups) (drop n (sizes f (t .stsz))))
+    (rest (shiftsLeft f (t .ctts) (l .shifts))) (pastOf (syncsLeft f (t .stss) (l .syncs)) n)

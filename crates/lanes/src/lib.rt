@@ -9,7 +9,7 @@ ghost use Rattle.signed.specs.Signed.{signed};
 ghost use Rattle.lanes.specs.Tables.{pairAt, sizeAt, offsetAt, chunks};
 ghost use Rattle.lanes.specs.Samples.{firstOr, rest, flagOf, pastOf};
 ghost use Rattle.lanes.specs.Lane.{runsLeft, placesLeft, shiftsLeft, syncsLeft, left, begun, fresh, view, shows};
-ghost use Rattle.lanes.specs.Rows.{pairRows, groupRows, endAt, rowAt, rowsOf, toldRuns, toldPlace};
+ghost use Rattle.lanes.specs.Rows.{pairRows, groupRows, endAt, rowAt, rowsOf, toldRuns, toldPlace, samplesFrom};
 use numbers::U32;
 use numbers::U64;
 
@@ -398,43 +398,29 @@ pub fn start() -> Lane
     }
 }
 
-// The next sample, and the lane after it.
-pub fn next(file: &[u8], track: Track, lane: Lane) -> Taken
-    ensures { λ r. ⌜ shows (now (file .entry)) track r ≡ view (left (now (file .entry)) track lane) ⌝ }
+// The sample of that number, size and duration at p's place, and the lane after it.
+fn give(
+    file: &[u8],
+    track: Track,
+    lane: Lane,
+    number: u32,
+    size: u32,
+    duration: u32,
+    times: Runs,
+    p: Place,
+) -> Taken
+    ensures { λ r. ⌜ shows (now (file .entry)) track r ≡ view (samplesFrom (now (file .entry)) track lane number size duration times p) ⌝ }
 {
-    let sizes = track.stsz;
-    let done = lane.done;
-    if sizes.count <= done {
-        return Taken::End;
-    }
-    let number = done + 1;
-    let size = size_at(file, sizes, done);
-    let wide = size as u64;
-    let stts = track.stts;
-    let times = lane.times;
-    let RunStep::Value {
-        value: duration,
-        rest: times2,
-    } = run_next(file, pairs(stts), times)
-    else {
-        return Taken::End;
-    };
-    let lasts = duration as u64;
-    let chunks = track.stco;
-    let stsc = track.stsc;
-    let place = lane.place;
-    let PlaceStep::At(p) = place_next(file, groups(stsc, chunks.count), chunks, place) else {
-        return Taken::End;
-    };
-    let at = p.at;
     let time = lane.time;
-    if 0xFFFF_FFFF_FFFF_FFFF - at < wide {
+    let wide = size as u64;
+    let lasts = duration as u64;
+    if 0xFFFF_FFFF_FFFF_FFFF - p.at < wide {
         return Taken::Over;
     }
     if 0x8000_0000_0000_0000 <= time {
         return Taken::Over;
     }
-    let end = at + wide;
+    let end = p.at + wide;
     let later = time + lasts;
     let ctts = track.ctts;
     let shifts = lane.shifts;
@@ -447,7 +433,7 @@ pub fn next(file: &[u8], track: Track, lane: Lane) -> Taken
     Taken::One {
         sample: Sample {
             number: number,
-            offset: at,
+            offset: p.at,
             size: size,
             time: time,
             duration: duration,
@@ -457,7 +443,7 @@ pub fn next(file: &[u8], track: Track, lane: Lane) -> Taken
         lane: Lane {
             done: number,
             time: later,
-            times: times2,
+            times: times,
             shifts: shifts2,
             syncs: sync.next,
             place: Place {
@@ -468,4 +454,29 @@ pub fn next(file: &[u8], track: Track, lane: Lane) -> Taken
             },
         },
     }
+}
+
+// The next sample, and the lane after it. There is none where stsz, stts or stsc has no more.
+pub fn next(file: &[u8], track: Track, lane: Lane) -> Taken
+    ensures { λ r. ⌜ shows (now (file .entry)) track r ≡ view (left (now (file .entry)) track lane) ⌝ }
+{
+    let sizes = track.stsz;
+    let done = lane.done;
+    if sizes.count <= done {
+        return Taken::End;
+    }
+    let number = done + 1;
+    let size = size_at(file, sizes, done);
+    let stts = track.stts;
+    let times = lane.times;
+    let RunStep::Value { value, rest } = run_next(file, pairs(stts), times) else {
+        return Taken::End;
+    };
+    let chunks = track.stco;
+    let stsc = track.stsc;
+    let place = lane.place;
+    let PlaceStep::At(p) = place_next(file, groups(stsc, chunks.count), chunks, place) else {
+        return Taken::End;
+    };
+    give(file, track, lane, number, size, value, rest, p)
 }
