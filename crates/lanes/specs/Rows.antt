@@ -1,6 +1,7 @@
 -- What the private functions of the lane promise: rows by their number, and what one step of a cursor tells. No public promise
 -- rests on it. Assumes nothing.
 use Prim.Native.Nat.{ℕ, zero, suc, _+_, _-_, _*_}
+use mathlib.Core.Path.{_≡_}
 use mathlib.Core.List.{List, [], _∷_}
 use mathlib.Core.Bool.{Bool, true, false}
 use lib.ListN.{drop}
@@ -9,7 +10,7 @@ use Rattle.numbers.specs.Field.{when, orZero}
 use Rattle.signed.specs.Signed.{signed}
 use Rattle.lanes.specs.Tables.{listed, pairAt, pairs, groups, chunks, sizes}
 use Rattle.lanes.specs.Samples.{firstOr, rest, flagOf, pastOf, zipped}
-use Rattle.lanes.specs.Lane.{runsLeft, placesAt, shiftsLeft, syncsLeft}
+use Rattle.lanes.specs.Lane.{runsLeft, placesAt, placesLeft, shiftsLeft, syncsLeft}
 use Rattle.lanes.specs.declared.Table.{Table}
 use Rattle.lanes.specs.declared.Rows.{Rows}
 use Rattle.lanes.specs.declared.Row.{Row}
@@ -53,6 +54,10 @@ toldRuns rs run.End = []
 abbrev pub toldPlace : List Row → List ℕ → PlaceStep → ℕ → List ℕ → List ℕ
 toldPlace rs cs (place.At p) z ss = p .at ∷ placesAt rs cs (p .left) (p .at + z) (p .chunk) (p .groups) ss
 toldPlace rs cs place.End z ss = []
+
+-- a step over places, whatever the sizes to come: one place, and what is left after a sample of any size there
+abbrev pub Steps : List Row → List ℕ → PlaceStep → Place → Type 0
+Steps rs cs r p = (z : ℕ) → (ss : List ℕ) → toldPlace rs cs r z ss ≡ placesLeft rs cs p (z ∷ ss)
 
 -- the samples from sample n on, where it has size z and lasts d, is at p's place, and c has the durations after it
 unfoldable pub samplesFrom : List ℕ → Track → Lane → ℕ → ℕ → ℕ → Runs → Place → List Sample

@@ -1,15 +1,14 @@
-// The samples of one track, from its tables as they lie in the file. A lane is a cursor by value: it gives one sample after the
-// other, visits each entry of each table once, and never goes back to the start of a table.
+// The samples of one track, from its tables as they lie in the file. A lane is a cursor by value: it gives one sample
+// after the other, visits each entry of each table once, and never goes back to the start of a table.
 ghost use mathlib.Core.Path.{_≡_};
-ghost use mathlib.Core.List.{List, _∷_};
-ghost use Prim.Native.Nat.{ℕ, _+_, min};
+ghost use Prim.Native.Nat.{_+_, min};
 ghost use lib.ListN.{length};
 ghost use Rattle.numbers.specs.Field.{orZero};
 ghost use Rattle.signed.specs.Signed.{signed};
-ghost use Rattle.lanes.specs.Tables.{pairAt, sizeAt, offsetAt, chunks};
+ghost use Rattle.lanes.specs.Tables.{sizeAt, offsetAt, chunks};
 ghost use Rattle.lanes.specs.Samples.{firstOr, rest, flagOf, pastOf};
-ghost use Rattle.lanes.specs.Lane.{runsLeft, placesLeft, shiftsLeft, syncsLeft, left, begun, fresh, view, shows};
-ghost use Rattle.lanes.specs.Rows.{pairRows, groupRows, endAt, rowAt, rowsOf, toldRuns, toldPlace, samplesFrom};
+ghost use Rattle.lanes.specs.Lane.{runsLeft, shiftsLeft, syncsLeft, left, begun, fresh, view, shows};
+ghost use Rattle.lanes.specs.Rows.{pairRows, groupRows, endAt, rowAt, rowsOf, toldRuns, Steps, samplesFrom};
 use numbers::U32;
 use numbers::U64;
 
@@ -19,25 +18,27 @@ pub struct Table {
     pub count: u32,
 }
 
+// A table that may be absent: no ctts, or no stss.
 pub enum Optional {
     Absent,
     At(Table),
 }
 
-// common is 0 where the sizes are listed.
+// The table stsz. common is 0 where the sizes are listed.
 pub struct Sizes {
     pub at: usize,
     pub count: u32,
     pub common: u32,
 }
 
-// wide: co64, else stco.
+// The chunks: wide by co64, else by stco.
 pub struct Chunks {
     pub at: usize,
     pub count: u32,
     pub wide: bool,
 }
 
+// The tables of a track.
 pub struct Track {
     pub stts: Table,
     pub ctts: Optional,
@@ -55,6 +56,7 @@ pub struct Rows {
     pub chunks: u32,
 }
 
+// One run.
 pub struct Row {
     pub count: u64,
     pub value: u32,
@@ -67,12 +69,14 @@ pub struct Runs {
     pub value: u32,
 }
 
+// A value and the cursor after it, or the end of the table.
 pub enum RunStep {
     Value { value: u32, rest: Runs },
     End,
 }
 
-// A cursor over chunks: how many samples of the chunk are left, where the next one lies, the next chunk, and the runs of stsc.
+// A cursor over chunks: how many samples of the chunk are left, where the next one lies, the next chunk, and the
+// runs of stsc.
 pub struct Place {
     pub left: u32,
     pub at: u64,
@@ -119,6 +123,7 @@ fn word64(file: &[u8], at: usize, past: usize) -> u64
     }
 }
 
+// The rows of stts or ctts.
 fn pairs(t: Table) -> Rows
     ensures { λ r. ⌜ r ≡ pairRows t ⌝ }
 {
@@ -130,6 +135,7 @@ fn pairs(t: Table) -> Rows
     }
 }
 
+// The rows of stsc, for that many chunks.
 fn groups(t: Table, chunks: u32) -> Rows
     ensures { λ r. ⌜ r ≡ groupRows t chunks ⌝ }
 {
@@ -180,6 +186,7 @@ fn entry(file: &[u8], rows: Rows, i: u32) -> Row
     }
 }
 
+// The size of sample i, counted from 0.
 fn size_at(file: &[u8], t: Sizes, i: u32) -> u32
     ensures { λ r. ⌜ r ≡ sizeAt (now (file .entry)) t i ⌝ }
 {
@@ -189,6 +196,7 @@ fn size_at(file: &[u8], t: Sizes, i: u32) -> u32
     t.common
 }
 
+// Where chunk i lies, counted from 0.
 fn offset_at(file: &[u8], t: Chunks, i: u32) -> u64
     ensures { λ r. ⌜ r ≡ offsetAt (now (file .entry)) t i ⌝ }
 {
@@ -198,6 +206,7 @@ fn offset_at(file: &[u8], t: Chunks, i: u32) -> u64
     word32(file, t.at, (i as usize) * 4) as u64
 }
 
+// The next value where the row is used up: rows that count 0 are passed over.
 fn run_refill(file: &[u8], rows: Rows, c: Runs) -> RunStep
     ensures { λ r. ⌜ toldRuns (rowsOf (now (file .entry)) rows) r ≡ runsLeft (rowsOf (now (file .entry)) rows) c ⌝ }
 {
@@ -223,6 +232,7 @@ fn run_refill(file: &[u8], rows: Rows, c: Runs) -> RunStep
     }
 }
 
+// The next value of a table of runs, and the cursor after it.
 fn run_next(file: &[u8], rows: Rows, c: Runs) -> RunStep
     ensures { λ r. ⌜ toldRuns (rowsOf (now (file .entry)) rows) r ≡ runsLeft (rowsOf (now (file .entry)) rows) c ⌝ }
 {
@@ -239,8 +249,9 @@ fn run_next(file: &[u8], rows: Rows, c: Runs) -> RunStep
     }
 }
 
+// The next place where the chunk is used up: chunks without samples are passed over.
 fn place_refill(file: &[u8], rows: Rows, t: Chunks, p: Place) -> PlaceStep
-    ensures { λ r. ⌜ ((z : ℕ) → (ss : List ℕ) → toldPlace (rowsOf (now (file .entry)) rows) (chunks (now (file .entry)) t) r z ss ≡ placesLeft (rowsOf (now (file .entry)) rows) (chunks (now (file .entry)) t) p (z ∷ ss)) ⌝ }
+    ensures { λ r. ⌜ Steps (rowsOf (now (file .entry)) rows) (chunks (now (file .entry)) t) r p ⌝ }
 {
     let mut left = p.left;
     let mut at = p.at;
@@ -266,8 +277,9 @@ fn place_refill(file: &[u8], rows: Rows, t: Chunks, p: Place) -> PlaceStep
     })
 }
 
+// The place of the next sample, and the cursor after it but for its size.
 fn place_next(file: &[u8], rows: Rows, t: Chunks, p: Place) -> PlaceStep
-    ensures { λ r. ⌜ ((z : ℕ) → (ss : List ℕ) → toldPlace (rowsOf (now (file .entry)) rows) (chunks (now (file .entry)) t) r z ss ≡ placesLeft (rowsOf (now (file .entry)) rows) (chunks (now (file .entry)) t) p (z ∷ ss)) ⌝ }
+    ensures { λ r. ⌜ Steps (rowsOf (now (file .entry)) rows) (chunks (now (file .entry)) t) r p ⌝ }
 {
     if p.left == 0 {
         return place_refill(file, rows, t, p);
@@ -311,6 +323,7 @@ pub struct Sync {
     pub next: u32,
 }
 
+// Whether the sample of that number is the next sync one.
 fn sync_at(file: &[u8], o: Optional, i: u32, number: u32) -> Sync
     ensures is { λ r. ⌜ r .is ≡ flagOf (syncsLeft (now (file .entry)) o i) number ⌝ }
     ensures rest { λ r. ⌜ syncsLeft (now (file .entry)) o (r .next) ≡ pastOf (syncsLeft (now (file .entry)) o i) number ⌝ }
@@ -340,6 +353,7 @@ fn composition(x: u32) -> i64
     (x as i64) - 4294967296
 }
 
+// A sample: numbers count from 1, a composition offset counts from the time.
 pub struct Sample {
     pub number: u32,
     pub offset: u64,
@@ -367,6 +381,7 @@ pub enum Taken {
     Over,
 }
 
+// A cursor before the first row.
 fn new_runs() -> Runs
     ensures { λ r. ⌜ r ≡ begun ⌝ }
 {
@@ -377,6 +392,7 @@ fn new_runs() -> Runs
     }
 }
 
+// A lane that begins.
 pub fn start() -> Lane
     ensures { λ r. ⌜ r ≡ fresh ⌝ }
 {
