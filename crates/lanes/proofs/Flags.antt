@@ -1,5 +1,5 @@
--- Which samples are sync: all where there is no stss; else, where the list rises as every stss that is read does (A21), just those
--- whose number is in it. Assumes nothing.
+-- Which samples are sync: all where there is no stss; else, where the list rises as every stss that is read does (A21),
+-- just those whose number is in it. Assumes nothing.
 use Prim.Native.Nat.{ℕ, zero, suc, _+_, _≤_, _<_}
 use mathlib.Core.Path.{_≡_, refl, sym, ap, _∙_}
 use mathlib.Core.List.{List, [], _∷_}

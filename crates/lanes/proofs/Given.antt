@@ -1,5 +1,5 @@
--- A lane that goes on gives the samples that it has left, one after the other, up to the first that is not held; one that begins
--- gives the samples of the track. Of any function that keeps `next`'s promise. Assumes nothing.
+-- A lane that goes on gives the samples that it has left, one after the other, up to the first that is not held; one
+-- that begins gives the samples of the track. Of any function that keeps `next`'s promise. Assumes nothing.
 use Prim.Native.Nat.{ℕ, zero, suc}
 use mathlib.Core.Path.{_≡_, refl, sym, ap, _∙_}
 use mathlib.Core.List.{List, [], _∷_}

@@ -1,5 +1,5 @@
--- Each promise fixes what is told: a lane that begins is one lane; an answer of `next` is fixed in its sample and in what the lane
--- after it has left. Stated on the promises themselves. Assumes nothing.
+-- Each promise fixes what is told: a lane that begins is one lane; an answer of `next` is fixed in its sample and in
+-- what the lane after it has left. Stated on the promises themselves. Assumes nothing.
 use mathlib.Core.Path.{_≡_, sym, ap, _∙_}
 use mathlib.Core.List.{List}
 use native.Mathlib.Omega.{arith}

@@ -1,5 +1,5 @@
--- Worked examples of the definitions, computed on bytes: cases 1 and 2 of document 01, a lane that goes on, and where it ends.
--- Assumes nothing.
+-- Worked examples of the definitions, computed on bytes: cases 1 and 2 of document 01, a lane that goes on, and where
+-- it ends. Assumes nothing.
 use Prim.Native.Nat.{ℕ, _+_, _-_, _^_}
 use mathlib.Core.Path.{_≡_, refl}
 use mathlib.Core.List.{List, [], _∷_, _++_}

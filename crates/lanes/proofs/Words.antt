@@ -1,4 +1,5 @@
--- The laws of numbers in the file: the position that is looked at, and the signed number that 32 bits stand for. Assumes nothing.
+-- The laws of numbers in the file: the position that is looked at, and the signed number that 32 bits stand for.
+-- Assumes nothing.
 use mathlib.Core.Path.{_≡_, refl, sym, ap, _∙_}
 use mathlib.Core.List.{List}
 use mathlib.Core.Bool.{Bool, true, false, cond}

@@ -1,5 +1,5 @@
--- The samples that a lane has left: the same tables, each from where the lane's cursor stands. `left-fresh` (proofs/Left.antt)
--- says that a lane that begins has the samples of the track left. Assumes nothing.
+-- The samples that a lane has left: the same tables, each from where the lane's cursor stands. `left-fresh`
+-- (proofs/Left.antt) says that a lane that begins has the samples of the track left. Assumes nothing.
 use Prim.Native.Nat.{ℕ, zero, suc, _+_, _^_}
 use mathlib.Core.List.{List, [], _∷_, _++_}
 use mathlib.Core.Bool.{Bool, true, false, _&&_}
@@ -26,7 +26,8 @@ runsAt rs i left value = replicate left value ++ valuesOf (drop i rs)
 abbrev pub runsLeft : List Row → Runs → List ℕ
 runsLeft rs c = runsAt rs (c .next) (c .left) (c .value)
 
--- the places left, of samples of the sizes ss: `left` of a chunk, the next one at `at`; then those of the chunks from k on
+-- the places left, of samples of the sizes ss: `left` of a chunk, the next one at `at`; then those of the chunks from k
+-- on
 unfoldable pub placesAt : List Row → List ℕ → ℕ → ℕ → ℕ → Runs → List ℕ → List ℕ
 placesAt rs cs left at k c ss = starts at (take left ss) ++ place (runsLeft rs c) (drop k cs) (drop left ss)
 

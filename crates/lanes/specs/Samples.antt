@@ -31,8 +31,8 @@ abbrev pub rest : List ℕ → List ℕ
 rest [] = []
 rest (x ∷ l) = l
 
--- whether the sample of the next number is sync, and the sync numbers after it: the list rises (A21), so that its first is the
--- only one to look at
+-- whether the sample of the next number is sync, and the sync numbers after it: the list rises (A21), so that its first
+-- is the only one to look at
 abbrev pub flagOf : Syncs → ℕ → Bool
 flagOf every n = true
 flagOf (those []) n = false
@@ -43,8 +43,9 @@ pastOf every n = every
 pastOf (those []) n = those []
 pastOf (those (x ∷ l)) n = those (when (eqb x n) l (x ∷ l))
 
--- the samples of these sizes, durations, places, composition offsets and sync numbers, as many as the sizes, durations and
--- places all have (A14): n came before, and the first is at time m. A composition offset that is not there is 0 (A14).
+-- the samples of these sizes, durations, places, composition offsets and sync numbers, as many as the sizes, durations
+-- and places all have (A14): n came before, and the first is at time m. A composition offset that is not there is 0
+-- (A14).
 abbrev pub zipped : ℕ → ℕ → List ℕ → List ℕ → List ℕ → List ℕ → Syncs → List Sample
 zipped n m [] ds os cs ys = []
 zipped n m (z ∷ ss) [] os cs ys = []

@@ -1,6 +1,6 @@
--- The tables of a track as lists, as they lie in the file's bytes (ISO/IEC 14496-12: 8.6.1.2 stts, 8.6.1.3 ctts, 8.6.2 stss,
--- 8.7.3 stsz, 8.7.4 stsc, 8.7.5 stco and co64). A track says where each table's entries begin and how many there are; a number
--- that the file does not hold whole is 0. There is no cursor here. Assumes nothing.
+-- The tables of a track as lists, as they lie in the file's bytes (ISO/IEC 14496-12: 8.6.1.2 stts, 8.6.1.3 ctts, 8.6.2
+-- stss, 8.7.3 stsz, 8.7.4 stsc, 8.7.5 stco and co64). A track says where each table's entries begin and how many there
+-- are; a number that the file does not hold whole is 0. There is no cursor here. Assumes nothing.
 use Prim.Native.Nat.{ℕ, zero, suc, _+_, _-_, _*_}
 use mathlib.Core.List.{List, [], _∷_, _++_}
 use mathlib.Core.Bool.{Bool, true, false}
@@ -47,8 +47,8 @@ pub record Group : Type 0 where
 unfoldable pub groupAt : List ℕ → ℕ → ℕ → Group
 groupAt f at i = record { first = orZero 4 f (at + i * 12); per = orZero 4 f (at + (i * 12 + 4)) }
 
--- the entries of stsc as runs of chunks, n chunks in all, numbered from 1: each up to the next one's first chunk, the last one
--- up to the last chunk
+-- the entries of stsc as runs of chunks, n chunks in all, numbered from 1: each up to the next one's first chunk, the
+-- last one up to the last chunk
 abbrev pub chunkRuns : ℕ → List Group → List Row
 chunkRuns n [] = []
 chunkRuns n (g ∷ []) = record { count = n + 1 - g .first; value = g .per } ∷ []

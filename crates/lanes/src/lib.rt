@@ -12,6 +12,11 @@ ghost use Rattle.lanes.specs.Rows.{pairRows, groupRows, endAt, rowAt, ro
 use numbers::U32;
 use numbers::U64;
 
+// The last position that a sample may end at, and the first time that none has (9).
+const LAST: u64 = 0xFFFF_FFFF_FFFF_FFFF;
+
+const TIME_BOUND: u64 = 0x8000_0000_0000_0000;
+
 // Where a table's entries lie, from their first byte on, and how many there are.
 pub struct Table {
     pub at: usize,
@@ -430,10 +435,10 @@ fn give(
     let time = lane.time;
     let wide = size as u64;
     let lasts = duration as u64;
-    if 0xFFFF_FFFF_FFFF_FFFF - p.at < wide {
+    if LAST - p.at < wide {
         return Taken::Over;
     }
-    if 0x8000_0000_0000_0000 <= time {
+    if TIME_BOUND <= time {
         return Taken::Over;
     }
     let end = p.at + wide;
@@ -444,7 +449,7 @@ fn give(
     let stss = track.stss;
     let sync = sync_at(file, stss, lane.syncs, number);
     let composition = composition(shift.value);
-    let shifts2 = shift.rest;
+    let further = shift.rest;
     let runs = p.groups;
     Taken::One {
         sample: Sample {
@@ -460,7 +465,7 @@ fn give(
             done: number,
             time: later,
             times: times,
-            shifts: shifts2,
+            shifts: further,
             syncs: sync.next,
             place: Place {
                 left: p.left,
