@@ -54,7 +54,7 @@ pub struct Track {
 }
 
 // A table of runs: (count, value), or stsc's (first chunk, samples per chunk, description) for that many chunks.
-pub struct Rows {
+struct Rows {
     pub at: usize,
     pub count: u32,
     pub grouped: bool,
@@ -75,7 +75,7 @@ pub struct Runs {
 }
 
 // A value and the cursor after it, or the end of the table.
-pub enum RunStep {
+enum RunStep {
     Value { value: u32, rest: Runs },
     End,
 }
@@ -90,7 +90,7 @@ pub struct Place {
 }
 
 // The place of a sample, and what is left after it, but for its size.
-pub enum PlaceStep {
+enum PlaceStep {
     At(Place),
     End,
 }
@@ -299,7 +299,7 @@ fn place_next(file: &[u8], rows: Rows, t: Chunks, p: Place) -> PlaceStep
 }
 
 // A composition offset, and the cursor after it.
-pub struct Shift {
+struct Shift {
     pub value: u32,
     pub rest: Runs,
 }
@@ -323,7 +323,7 @@ fn shift_next(file: &[u8], o: Optional, c: Runs) -> Shift
 }
 
 // Whether a sample is sync, and the next entry of stss.
-pub struct Sync {
+struct Sync {
     pub is: bool,
     pub next: u32,
 }
