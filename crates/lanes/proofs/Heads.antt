@@ -1,0 +1,124 @@
+-- One law for each return of `next`: what it tells is what is left. Assumes nothing.
+use Prim.Native.Nat.{ℕ, zero, suc, _+_, _-_, _^_, _≤_, _<_}
+use mathlib.Core.Path.{_≡_, refl, sym, ap, ap₂, _∙_}
+use mathlib.Core.List.{List, [], _∷_}
+use mathlib.Core.Bool.{Bool, true, false, _&&_}
+use lib.ListN.{drop}
+use lib.Dec.{ltb}
+use lib.IntN.{ℤ}
+use borrow.Author.Tests.{lt-ltb, le-ltb}
+use Rattle.numbers.specs.Field.{when}
+use Rattle.signed.specs.Signed.{signed}
+use Rattle.lanes.specs.Tables.{pairs, groups, chunks, sizes, sizeAt}
+use Rattle.lanes.specs.Samples.{firstOr, rest, flagOf, pastOf, zipped}
+use Rattle.lanes.specs.Lane.{runsLeft, placesAt, placesLeft, shiftsLeft, syncsLeft, sizesLeft, left, View, none, over, one, view, shows}
+use Rattle.lanes.specs.Rows.{pairRows, groupRows, rowsOf, toldRuns, toldPlace, samplesFrom}
+use Rattle.lanes.specs.declared.Rows.{Rows}
+use Rattle.lanes.specs.declared.Row.{Row}
+use Rattle.lanes.specs.declared.Runs.{Runs}
+use Rattle.lanes.specs.declared.Place.{Place}
+use Rattle.lanes.specs.declared.RunStep.{RunStep}
+use Rattle.lanes.specs.declared.RunStep.the-variants as run
+use Rattle.lanes.specs.declared.PlaceStep.{PlaceStep}
+use Rattle.lanes.specs.declared.PlaceStep.the-variants as place
+use Rattle.lanes.specs.declared.Track.{Track}
+use Rattle.lanes.specs.declared.Sample.{Sample}
+use Rattle.lanes.specs.declared.Lane.{Lane}
+use Rattle.lanes.specs.declared.Taken.{Taken}
+use Rattle.lanes.specs.declared.Taken.the-variants as taken
+use Rattle.lanes.proofs.Lists.{list-cons, list-nil, rows-pairs, rows-groups}
+
+and-false : (x : Bool) → (x && false) ≡ false
+and-false true = refl
+and-false false = refl
+
+module _ (f : List ℕ) (t : Track) (l : Lane) where
+  -- what the lane has left of each table, and of the tables themselves
+
+  abbrev times : List ℕ
+  times = runsLeft (pairs f (t .stts)) (l .times)
+
+  abbrev perChunk : List Row
+  perChunk = groups f (t .stsc) (t .stco .count)
+
+  abbrev places : List ℕ → List ℕ
+  places ss = placesLeft perChunk (chunks f (t .stco)) (l .place) ss
+
+  abbrev composed : List ℕ
+  composed = shiftsLeft f (t .ctts) (l .shifts)
+
+  left-is : (ss ds os : List ℕ) → sizesLeft f t l ≡ ss → times ≡ ds → places ss ≡ os
+      → left f t l ≡ zipped (l .done) (l .time) ss ds os composed (syncsLeft f (t .stss) (l .syncs))
+  unfolding left
+  left-is ss ds os a b c =
+      ap (λ (x : List ℕ). zipped (l .done) (l .time) x times (places x) composed (syncsLeft f (t .stss) (l .syncs))) a
+      ∙ ap₂ (λ (x y : List ℕ). zipped (l .done) (l .time) ss x y composed (syncsLeft f (t .stss) (l .syncs))) b c
+
+  pub no-size : t .stsz .count ≤ l .done → none ≡ view (left f t l)
+  no-size h = sym (ap view (left-is [] times (places []) (list-nil (sizeAt f (t .stsz)) (t .stsz .count) (l .done) h) refl refl))
+
+  -- the sizes after the next one
+  abbrev later : List ℕ
+  later = drop (l .done + 1) (sizes f (t .stsz))
+
+  module _ (h : l .done < t .stsz .count) (z : ℕ) (ez : z ≡ sizeAt f (t .stsz) (l .done)) where
+    these : sizesLeft f t l ≡ z ∷ later
+    these = list-cons (sizeAt f (t .stsz)) (t .stsz .count) (l .done) h ∙ ap (λ (k : ℕ). k ∷ later) (sym ez)
+
+    module _ (r : Rows) (er : r ≡ pairRows (t .stts)) (s : RunStep) (es : toldRuns (rowsOf f r) s ≡ runsLeft (rowsOf f r) (l .times)) where
+      as-pairs : rowsOf f r ≡ pairs f (t .stts)
+      as-pairs = ap (rowsOf f) er ∙ rows-pairs f (t .stts)
+
+      told : toldRuns (pairs f (t .stts)) s ≡ times
+      told = sym (ap (λ (rs : List Row). toldRuns rs s) as-pairs) ∙ es ∙ ap (λ (rs : List Row). runsLeft rs (l .times)) as-pairs
+
+      pub no-time : s ≡ run.End → none ≡ view (left f t l)
+      no-time e = sym (ap view (left-is (z ∷ later) [] (places (z ∷ later)) these (sym told ∙ ap (toldRuns (pairs f (t .stts))) e) refl))
+
+      module _ (d : ℕ) (c′ : Runs) (e : s ≡ run.Value d c′) (g : Rows) (eg : g ≡ groupRows (t .stsc) (t .stco .count)) (q : PlaceStep)
+          (eq : (z : ℕ) (ss : List ℕ) → toldPlace (rowsOf f g) (chunks f (t .stco)) q z ss ≡ placesLeft (rowsOf f g) (chunks f (t .stco)) (l .place) (z ∷ ss)) where
+        lasts : times ≡ d ∷ runsLeft (pairs f (t .stts)) c′
+        lasts = sym told ∙ ap (toldRuns (pairs f (t .stts))) e
+
+        as-groups : rowsOf f g ≡ perChunk
+        as-groups = ap (rowsOf f) eg ∙ rows-groups f (t .stsc) (t .stco .count)
+
+        lie : toldPlace perChunk (chunks f (t .stco)) q z later ≡ places (z ∷ later)
+        lie =
+            sym (ap (λ (rs : List Row). toldPlace rs (chunks f (t .stco)) q z later) as-groups) ∙ eq z later
+            ∙ ap (λ (rs : List Row). placesLeft rs (chunks f (t .stco)) (l .place) (z ∷ later)) as-groups
+
+        pub no-place : q ≡ place.End → none ≡ view (left f t l)
+        no-place w =
+            sym (ap view (left-is (z ∷ later) (d ∷ runsLeft (pairs f (t .stts)) c′) [] these lasts
+            (sym lie ∙ ap (λ (k : PlaceStep). toldPlace perChunk (chunks f (t .stco)) k z later) w)))
+
+        pub gives : (p : Place) → q ≡ place.At p → (r : Taken)
+            → shows f t r ≡ view (samplesFrom f t l (l .done + 1) z d c′ p) → shows f t r ≡ view (left f t l)
+        unfolding samplesFrom
+        gives p w r x =
+            x ∙ sym (ap view (left-is (z ∷ later) (d ∷ runsLeft (pairs f (t .stts)) c′)
+            (p .at ∷ placesAt perChunk (chunks f (t .stco)) (p .left) (p .at + z) (p .chunk) (p .groups) later) these lasts
+            (sym lie ∙ ap (λ (k : PlaceStep). toldPlace perChunk (chunks f (t .stco)) k z later) w)))
+
+-- the sample that is given
+
+module _ (f : List ℕ) (t : Track) (l : Lane) (n z d : ℕ) (c : Runs) (p : Place) where
+  pub over-end : 2 ^ 64 ≤ p .at + z → over ≡ view (samplesFrom f t l n z d c p)
+  unfolding samplesFrom when
+  over-end k = rw (le-ltb (p .at + z) (2 ^ 64) k)
+
+  pub over-time : 2 ^ 63 ≤ l .time → over ≡ view (samplesFrom f t l n z d c p)
+  unfolding samplesFrom when
+  over-time k = rw (le-ltb (l .time) (2 ^ 63) k, and-false)
+
+  pub takes : (v : ℕ) (rs : Runs) (b : Bool) (i : ℕ) (co : ℤ) → p .at + z < 2 ^ 64 → l .time < 2 ^ 63
+      → v ≡ firstOr 0 (shiftsLeft f (t .ctts) (l .shifts)) → shiftsLeft f (t .ctts) rs ≡ rest (shiftsLeft f (t .ctts) (l .shifts))
+      → b ≡ flagOf (syncsLeft f (t .stss) (l .syncs)) n → syncsLeft f (t .stss) i ≡ pastOf (syncsLeft f (t .stss) (l .syncs)) n
+      → co ≡ signed 4 v
+      → shows f t (taken.One
+      (record { number = n; offset = p .at; size = z; time = l .time; duration = d; composition = co; sync = b })
+      (record { done = n; time = l .time + d; times = c; shifts = rs; syncs = i; place = record { left = p .left; at = p .at + z; chunk = p .chunk; groups = p .groups } }))
+      ≡ view (samplesFrom f t l n z d c p)
+  unfolding left samplesFrom when
+  takes v rs b i co k m ev er eb en ec = rw (ec, ev, er, eb, en, lt-ltb (p .at + z) (2 ^ 64) k, lt-ltb (l .time) (2 ^ 63) m)

@@ -1,0 +1,24 @@
+use Rattle.lanes.proofs.Words.{signed-low, signed-fits, signed-high}
+use borrow.Author.Needs.{needs}
+use Rattle.lanes.proofs.composition.Statement.{statement}
+use Rattle.lanes.proofs.composition.Tie as tie
+use Rattle.lanes.proofs.composition.Reads as reads
+use Rattle.lanes.proofs.composition.Lts as lts
+
+cast-result : tie.Need-cast-result
+cast-result c = search needs
+
+returns : tie.Need-returns
+returns c = signed-low _ (c .if1 .taken)
+
+cast-result-2 : tie.Need-cast-result-2
+cast-result-2 c = search needs
+
+sub-result : tie.Need-sub-result
+sub-result c = signed-fits _ (c .if1 .left) (c .before .fits .x .fits)
+
+returns-2 : tie.Need-returns-2
+returns-2 c = signed-high _ (c .if1 .left) (c .before .fits .x .fits)
+
+pub composition-spec : {M : Type 1} → statement M
+composition-spec = tie.close (tie.spec cast-result returns cast-result-2 sub-result returns-2)

@@ -1,0 +1,54 @@
+use native.Mathlib.Omega.{arith}
+use mathlib.Core.Path.{_∙_}
+use mir.Facts.{toZ-ofZ}
+use mir.Syntax.{w64}
+use Rattle.lanes.proofs.Heads.{over-end, over-time, takes}
+use borrow.Author.Needs.{needs}
+use Rattle.lanes.proofs.give.Statement.{statement}
+use Rattle.lanes.proofs.give.Tie as tie
+use Rattle.lanes.proofs.give.Reads as reads
+use Rattle.lanes.proofs.give.Lts as lts
+use Rattle.lanes.proofs.composition.Reads as composition-reads
+use Rattle.lanes.proofs.shift_next.Reads as shift-next-reads
+use Rattle.lanes.proofs.sync_at.Reads as sync-at-reads
+
+sub-if1 : tie.Need-sub-if1
+sub-if1 c = search needs
+
+returns : tie.Need-returns
+returns c = over-end _ (c .before .before .before .args .track) (c .before .before .before .args .lane) _ _ _ (c .before .before .before .args .times) (c .before .before .before .args .p) (omega arith)
+
+returns-2 : tie.Need-returns-2
+returns-2 c = over-time _ (c .before .before .before .before .args .track) (c .before .before .before .before .args .lane) _ _ _ (c .before .before .before .before .args .times) (c .before .before .before .before .args .p) (c .if2 .taken)
+
+add-end : tie.Need-add-end
+add-end c = search needs
+
+add-later : tie.Need-add-later
+add-later c = search needs
+
+shift-next-requires : tie.Need-shift-next-requires
+shift-next-requires c κs = search needs
+
+sync-at-requires : tie.Need-sync-at-requires
+sync-at-requires c κs = search needs
+
+composition-requires : tie.Need-composition-requires
+composition-requires c κs = search needs
+
+returns-3 : tie.Need-returns-3
+returns-3 c = takes _ (c .before .before .before .before .before .before .before .before .before .before .before .args .track) (c .before .before .before .before .before .before .before .before .before .before .before .args .lane) _ _ _ (c .before .before .before .before .before .before .before .before .before .before .before .args .times) (c .before .before .before .before .before .before .before .before .before .before .before .args .p) _ _ _ _ _ (omega arith) (c .before .before .before .before .before .before .before .if2 .left) (c .before .before .before .before .shift-next .ensures .0) (c .before .before .before .before .shift-next .ensures .1) (c .before .before .before .sync-at .ensures .0) (c .before .before .before .sync-at .ensures .1) (toZ-ofZ {w = w64} {z = c .before .before .composition .result} (record { sfits = c .before .before .composition .ok }) ∙ c .before .before .composition .ensures)
+
+pub give-spec : {M : Type 1} → statement M
+give-spec =
+    tie.close
+    (tie.spec
+    sub-if1
+    returns
+    returns-2
+    add-end
+    add-later
+    shift-next-requires
+    sync-at-requires
+    composition-requires
+    returns-3)

@@ -1,0 +1,48 @@
+use Rattle.lanes.proofs.Cases.{sync-all, sync-past, sync-hit, sync-miss}
+use borrow.Author.Needs.{needs}
+use Rattle.lanes.proofs.sync_at.Statement.{statement}
+use Rattle.lanes.proofs.sync_at.Tie as tie
+use Rattle.lanes.proofs.sync_at.Reads as reads
+use Rattle.lanes.proofs.sync_at.Lts as lts
+use Rattle.lanes.proofs.word32.Reads as word32-reads
+
+enum-known-o : tie.Need-enum-known-o
+enum-known-o c = search needs
+
+enum-told : tie.Need-enum-told
+enum-told c = search needs
+
+returns : tie.Need-returns
+returns c = sync-all _ _ _ _ (c .enum-told .given .1)
+
+mul-word32 : tie.Need-mul-word32
+mul-word32 c = search needs
+
+word32-requires : tie.Need-word32-requires
+word32-requires c κs = search needs
+
+add-t11 : tie.Need-add-t11
+add-t11 c = search needs
+
+returns-2 : tie.Need-returns-2
+returns-2 c = sync-hit _ _ _ _ _ (c .before .before .before .before .before .o .given .1) _ (c .before .before .if1 .taken) (c .before .word32 .ensures) (c .if2 .taken)
+
+returns-3 : tie.Need-returns-3
+returns-3 c = sync-miss _ _ _ _ _ (c .before .before .before .before .before .o .given .1) _ (c .before .before .if1 .taken) (c .before .word32 .ensures) (c .if2 .left)
+
+returns-4 : tie.Need-returns-4
+returns-4 c = sync-past _ _ _ _ _ (c .before .before .before .o .given .1) (c .if1 .left)
+
+pub sync-at-spec : {M : Type 1} → statement M
+sync-at-spec =
+    tie.close
+    (tie.spec
+    enum-known-o
+    enum-told
+    returns
+    mul-word32
+    word32-requires
+    add-t11
+    returns-2
+    returns-3
+    returns-4)

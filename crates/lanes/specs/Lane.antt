@@ -1,0 +1,92 @@
+-- The samples that a lane has left: the same tables, each from where the lane's cursor stands. `left-fresh`
+-- (proofs/Left.antt) says that a lane that begins has the samples of the track left. Assumes nothing.
+use Prim.Native.Nat.{ℕ, zero, suc, _+_, _^_}
+use mathlib.Core.List.{List, [], _∷_, _++_}
+use mathlib.Core.Bool.{Bool, true, false, _&&_}
+use lib.ListN.{take, drop, replicate}
+use lib.Dec.{ltb}
+use Rattle.numbers.specs.Field.{when}
+use Rattle.lanes.specs.Tables.{valuesOf, pairs, groups, chunks, sizes, Syncs, every, those, numbers}
+use Rattle.lanes.specs.Samples.{starts, place, zipped}
+use Rattle.lanes.specs.declared.Optional.{Optional}
+use Rattle.lanes.specs.declared.Optional.the-variants.{Absent, At}
+use Rattle.lanes.specs.declared.Row.{Row}
+use Rattle.lanes.specs.declared.Runs.{Runs}
+use Rattle.lanes.specs.declared.Place.{Place}
+use Rattle.lanes.specs.declared.Track.{Track}
+use Rattle.lanes.specs.declared.Sample.{Sample}
+use Rattle.lanes.specs.declared.Lane.{Lane}
+use Rattle.lanes.specs.declared.Taken.{Taken}
+use Rattle.lanes.specs.declared.Taken.the-variants as taken
+
+-- the values left of rows: `left` of one value, then those of the rows from i on
+unfoldable pub runsAt : List Row → ℕ → ℕ → ℕ → List ℕ
+runsAt rs i left value = replicate left value ++ valuesOf (drop i rs)
+
+abbrev pub runsLeft : List Row → Runs → List ℕ
+runsLeft rs c = runsAt rs (c .next) (c .left) (c .value)
+
+-- the places left, of samples of the sizes ss: `left` of a chunk, the next one at `at`; then those of the chunks from k
+-- on
+unfoldable pub placesAt : List Row → List ℕ → ℕ → ℕ → ℕ → Runs → List ℕ → List ℕ
+placesAt rs cs left at k c ss = starts at (take left ss) ++ place (runsLeft rs c) (drop k cs) (drop left ss)
+
+abbrev pub placesLeft : List Row → List ℕ → Place → List ℕ → List ℕ
+placesLeft rs cs p ss = placesAt rs cs (p .left) (p .at) (p .chunk) (p .groups) ss
+
+abbrev pub shiftsLeft : List ℕ → Optional → Runs → List ℕ
+shiftsLeft f Absent c = []
+shiftsLeft f (At t) c = runsLeft (pairs f t) c
+
+unfoldable pub syncsLeft : List ℕ → Optional → ℕ → Syncs
+syncsLeft f Absent i = every
+syncsLeft f (At t) i = those (drop i (numbers f t))
+
+abbrev pub sizesLeft : List ℕ → Track → Lane → List ℕ
+sizesLeft f t l = drop (l .done) (sizes f (t .stsz))
+
+-- the samples that a lane has left
+unfoldable pub left : List ℕ → Track → Lane → List Sample
+left f t l =
+    zipped (l .done) (l .time) (sizesLeft f t l) (runsLeft (pairs f (t .stts)) (l .times))
+    (placesLeft (groups f (t .stsc) (t .stco .count)) (chunks f (t .stco)) (l .place) (sizesLeft f t l))
+    (shiftsLeft f (t .ctts) (l .shifts)) (syncsLeft f (t .stss) (l .syncs))
+
+abbrev pub begun : Runs
+begun = record { next = 0; left = 0; value = 0 }
+
+-- a lane that begins
+abbrev pub fresh : Lane
+fresh = record {
+  done = 0;
+  time = 0;
+  times = begun;
+  shifts = begun;
+  syncs = 0;
+  place = record { left = 0; at = 0; chunk = 0; groups = begun };
+}
+
+-- a sample's end is below this, and its time below that (A13, 1 and 3): else refusal 9
+abbrev pub endBound : ℕ
+endBound = 2 ^ 64
+
+abbrev pub timeBound : ℕ
+timeBound = 2 ^ 63
+
+abbrev pub held : Sample → Bool
+held s = ltb (s .offset + s .size) endBound && ltb (s .time) timeBound
+
+-- what a list of samples shows: nothing, a sample that is not held, or its first and the rest
+pub data View : Type 0 where
+  none over : View
+  one : Sample → List Sample → View
+
+abbrev pub view : List Sample → View
+view [] = none
+view (s ∷ l) = when (held s) (one s l) over
+
+-- what an answer shows: a sample, and what the lane after it has left
+abbrev pub shows : List ℕ → Track → Taken → View
+shows f t (taken.One s l) = one s (left f t l)
+shows f t taken.End = none
+shows f t taken.Over = over

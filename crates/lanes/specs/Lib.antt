@@ -1,0 +1,4 @@
+pub mod Tables
+pub mod Samples
+pub mod Lane
+pub mod Rows
