@@ -5,14 +5,14 @@ use mathlib.Core.List.{List, [], _∷_, _++_}
 use mathlib.Core.Bool.{Bool, true, false}
 use native.Mathlib.Omega.{arith}
 use lib.ListN.{take, drop, replicate}
-use lib.Dec.{ltb, eqb}
-use borrow.Author.Tests.{lt-ltb, le-ltb, eq-eqb, ne-eqb}
+use lib.Dec.{eqb}
+use borrow.Author.Tests.{eq-eqb, ne-eqb}
 use Rattle.numbers.specs.Field.{when, orZero}
 use Rattle.numbers.proofs.Chain.{is-lt, not-lt, is-eq, is-ne, by-true, by-false}
-use Rattle.lanes.specs.Tables.{listed, valuesOf, pairAt, pairs, sizeAt, offsetAt, chunks, Syncs, every, those, numberAt, numbers}
+use Rattle.lanes.specs.Tables.{valuesOf, pairAt, pairs, sizeAt, offsetAt, chunks, Syncs, those, numberAt, numbers}
 use Rattle.lanes.specs.Samples.{starts, place, firstOr, rest, flagOf, pastOf}
 use Rattle.lanes.specs.Lane.{runsAt, runsLeft, placesAt, shiftsLeft, syncsLeft}
-use Rattle.lanes.specs.Rows.{pairRows, endAt, rowBy, rowAt, rowsOf, toldRuns, toldPlace}
+use Rattle.lanes.specs.Rows.{pairRows, endAt, rowBy, rowAt, rowsOf, toldRuns}
 use Rattle.lanes.specs.declared.Table.{Table}
 use Rattle.lanes.specs.declared.Optional.{Optional}
 use Rattle.lanes.specs.declared.Optional.the-variants.{Absent, At}
@@ -129,9 +129,6 @@ module _ (rs : List Row) (cs : List ℕ) (left at k : ℕ) (c : Runs) where
 -- COMPOSITION OFFSETS
 
 module _ (f : List ℕ) (o : Optional) (c : Runs) where
-  pub shift-absent : o ≡ Absent → (0 ≡ firstOr 0 (shiftsLeft f o c)) × (shiftsLeft f o c ≡ rest (shiftsLeft f o c))
-  shift-absent e = rw e (refl, refl)
-
   module _ (t : Table) (eo : o ≡ At t) (r : Rows) (s : RunStep) (er : r ≡ pairRows t) (es : toldRuns (rowsOf f r) s ≡ runsLeft (rowsOf f r) c) where
     as-pairs : rowsOf f r ≡ pairs f t
     as-pairs = ap (rowsOf f) er ∙ rows-pairs f t

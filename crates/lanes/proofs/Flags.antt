@@ -1,6 +1,6 @@
 -- Which samples are sync: all where there is no stss; else, where the list rises as every stss that is read does (A21),
 -- just those whose number is in it. Assumes nothing.
-use Prim.Native.Nat.{ℕ, zero, suc, _+_, _≤_, _<_}
+use Prim.Native.Nat.{ℕ, _+_, _≤_, _<_}
 use mathlib.Core.Path.{_≡_, refl, sym, ap, _∙_}
 use mathlib.Core.List.{List, [], _∷_}
 use mathlib.Core.Bool.{Bool, true, false}
@@ -8,8 +8,8 @@ use native.Mathlib.Omega.{arith}
 use lib.Dec.{eqb}
 use borrow.Author.Tests.{eqb-true, eqb-false, ne-eqb}
 use Rattle.numbers.specs.Field.{when}
-use Rattle.lanes.specs.Tables.{valuesOf, pairs, groups, chunks, sizes, shifts, Syncs, every, those, numbers, syncs}
-use Rattle.lanes.specs.Samples.{place, rest, flagOf, pastOf, zipped, samplesOf}
+use Rattle.lanes.specs.Tables.{valuesOf, pairs, groups, chunks, sizes, shifts, every, those, numbers}
+use Rattle.lanes.specs.Samples.{place, rest, flagOf, zipped, samplesOf}
 use Rattle.lanes.specs.declared.Sample.{Sample}
 use Rattle.lanes.specs.declared.Table.{Table}
 use Rattle.lanes.specs.declared.Track.{Track}

@@ -7,14 +7,14 @@ use mathlib.Core.Bool.{Bool, true, false}
 use lib.ListN.{take}
 use Rattle.numbers.specs.Field.{when}
 use Rattle.lanes.specs.Samples.{samplesOf}
-use Rattle.lanes.specs.Lane.{left, fresh, held, none, over, one, view, shows}
+use Rattle.lanes.specs.Lane.{left, fresh, held, view, shows}
 use Rattle.lanes.specs.declared.Track.{Track}
 use Rattle.lanes.specs.declared.Sample.{Sample}
 use Rattle.lanes.specs.declared.Lane.{Lane}
 use Rattle.lanes.specs.declared.Taken.{Taken}
 use Rattle.lanes.specs.declared.Taken.the-variants as taken
 use Rattle.lanes.proofs.Left.{left-fresh}
-use Rattle.lanes.proofs.Views.{Stuck, view-none, view-over, view-one}
+use Rattle.lanes.proofs.Views.{view-none, view-over, view-one}
 
 -- the samples before the first that is not held
 abbrev pub heldPart : List Sample → List Sample

@@ -1,17 +1,16 @@
 -- One law for each return of `next`: what it tells is what is left. Assumes nothing.
-use Prim.Native.Nat.{ℕ, zero, suc, _+_, _-_, _^_, _≤_, _<_}
+use Prim.Native.Nat.{ℕ, _+_, _^_, _≤_, _<_}
 use mathlib.Core.Path.{_≡_, refl, sym, ap, ap₂, _∙_}
 use mathlib.Core.List.{List, [], _∷_}
 use mathlib.Core.Bool.{Bool, true, false, _&&_}
 use lib.ListN.{drop}
-use lib.Dec.{ltb}
 use lib.IntN.{ℤ}
 use borrow.Author.Tests.{lt-ltb, le-ltb}
 use Rattle.numbers.specs.Field.{when}
 use Rattle.signed.specs.Signed.{signed}
 use Rattle.lanes.specs.Tables.{pairs, groups, chunks, sizes, sizeAt}
 use Rattle.lanes.specs.Samples.{firstOr, rest, flagOf, pastOf, zipped}
-use Rattle.lanes.specs.Lane.{runsLeft, placesAt, placesLeft, shiftsLeft, syncsLeft, sizesLeft, left, View, none, over, one, view, shows}
+use Rattle.lanes.specs.Lane.{runsLeft, placesAt, placesLeft, shiftsLeft, syncsLeft, sizesLeft, left, none, over, view, shows}
 use Rattle.lanes.specs.Rows.{pairRows, groupRows, rowsOf, toldRuns, toldPlace, samplesFrom}
 use Rattle.lanes.specs.declared.Rows.{Rows}
 use Rattle.lanes.specs.declared.Row.{Row}
@@ -22,7 +21,6 @@ use Rattle.lanes.specs.declared.RunStep.the-variants as run
 use Rattle.lanes.specs.declared.PlaceStep.{PlaceStep}
 use Rattle.lanes.specs.declared.PlaceStep.the-variants as place
 use Rattle.lanes.specs.declared.Track.{Track}
-use Rattle.lanes.specs.declared.Sample.{Sample}
 use Rattle.lanes.specs.declared.Lane.{Lane}
 use Rattle.lanes.specs.declared.Taken.{Taken}
 use Rattle.lanes.specs.declared.Taken.the-variants as taken

@@ -1,10 +1,10 @@
 -- What a lane has left: all samples of the track where it begins, and never more than the tables say. Assumes nothing.
-use Prim.Native.Nat.{ℕ, zero, suc, _+_, _-_, _≤_, min}
-use mathlib.Core.Path.{_≡_, refl, sym, ap, ap₂, _∙_}
-use mathlib.Core.List.{List, [], _∷_, _++_}
+use Prim.Native.Nat.{ℕ, _+_, _-_, _≤_, min}
+use mathlib.Core.Path.{_≡_, refl, ap, ap₂, _∙_}
+use mathlib.Core.List.{List, [], _∷_}
 use native.Mathlib.Omega.{arith}
 use lib.ListN.{length, take, drop, replicate, length-append, length-take, length-drop, length-replicate}
-use Rattle.lanes.specs.Tables.{listed, valuesOf, pairs, groups, chunks, sizes, sizeAt, offsetAt, shifts, Syncs, syncs}
+use Rattle.lanes.specs.Tables.{valuesOf, pairs, groups, chunks, sizes, sizeAt, offsetAt, shifts, Syncs, syncs}
 use Rattle.lanes.specs.Samples.{starts, place, rest, pastOf, zipped, samplesOf}
 use Rattle.lanes.specs.Lane.{runsAt, runsLeft, placesAt, placesLeft, shiftsLeft, syncsLeft, sizesLeft, left, begun, fresh}
 use Rattle.lanes.specs.declared.Optional.{Optional}

@@ -2,19 +2,16 @@
 use Prim.Native.Nat.{ℕ, zero, suc, _+_, _-_, _*_, _≤_, _<_}
 use mathlib.Core.Path.{_≡_, refl, sym, ap, ap₂, _∙_}
 use mathlib.Core.List.{List, [], _∷_}
-use mathlib.Core.Bool.{Bool, true, false}
 use native.Mathlib.Omega.{arith}
 use native.Mathlib.Numerals.{add-one}
 use native.Mathlib.Nat.{add-zero, zero-add}
 use lib.ListN.{length, drop}
-use lib.Dec.{ltb}
 use borrow.Author.Tests.{lt-ltb, le-ltb}
-use Rattle.numbers.specs.Field.{when, orZero}
-use Rattle.lanes.specs.Tables.{listFrom, listed, pairAt, pairs, Group, groupAt, groups, chunkRuns}
+use Rattle.numbers.specs.Field.{when}
+use Rattle.lanes.specs.Tables.{listFrom, listed, pairAt, pairs, groupAt, groups, chunkRuns}
 use Rattle.lanes.specs.Rows.{pairRows, groupRows, endAt, rowBy, rowAt, rowsOf}
 use Rattle.lanes.specs.declared.Table.{Table}
 use Rattle.lanes.specs.declared.Row.{Row}
-use Rattle.lanes.specs.declared.Rows.{Rows}
 
 module _ {A : Type 0} (g : ℕ → A) where
   from-cons : (i n k : ℕ) → i < n → drop i (listFrom g n k) ≡ g (k + i) ∷ drop (suc i) (listFrom g n k)

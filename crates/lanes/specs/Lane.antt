@@ -1,8 +1,8 @@
 -- The samples that a lane has left: the same tables, each from where the lane's cursor stands. `left-fresh`
 -- (proofs/Left.antt) says that a lane that begins has the samples of the track left. Assumes nothing.
-use Prim.Native.Nat.{ℕ, zero, suc, _+_, _^_}
+use Prim.Native.Nat.{ℕ, _+_, _^_}
 use mathlib.Core.List.{List, [], _∷_, _++_}
-use mathlib.Core.Bool.{Bool, true, false, _&&_}
+use mathlib.Core.Bool.{Bool, _&&_}
 use lib.ListN.{take, drop, replicate}
 use lib.Dec.{ltb}
 use Rattle.numbers.specs.Field.{when}

@@ -1,6 +1,6 @@
 -- The samples of a track, from its tables as lists (ISO/IEC 14496-12, 8.6 and 8.7): every number in ℕ, without limit.
 -- Assumes nothing.
-use Prim.Native.Nat.{ℕ, zero, suc, _+_}
+use Prim.Native.Nat.{ℕ, _+_}
 use mathlib.Core.List.{List, [], _∷_, _++_}
 use mathlib.Core.Bool.{Bool, true, false}
 use lib.ListN.{take, drop}

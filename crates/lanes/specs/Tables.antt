@@ -3,7 +3,6 @@
 -- are; a number that the file does not hold whole is 0. There is no cursor here. Assumes nothing.
 use Prim.Native.Nat.{ℕ, zero, suc, _+_, _-_, _*_}
 use mathlib.Core.List.{List, [], _∷_, _++_}
-use mathlib.Core.Bool.{Bool, true, false}
 use lib.ListN.{replicate}
 use lib.Dec.{eqb}
 use Rattle.numbers.specs.Field.{when, orZero}

@@ -2,8 +2,6 @@ use Rattle.lanes.proofs.Words.{signed-low, signed-fits, signed-high}
 use borrow.Author.Needs.{needs}
 use Rattle.lanes.proofs.composition.Statement.{statement}
 use Rattle.lanes.proofs.composition.Tie as tie
-use Rattle.lanes.proofs.composition.Reads as reads
-use Rattle.lanes.proofs.composition.Lts as lts
 
 cast-result : tie.Need-cast-result
 cast-result c = search needs

@@ -2,9 +2,6 @@ use Rattle.lanes.proofs.Cases.{end-next, end-last}
 use borrow.Author.Needs.{needs}
 use Rattle.lanes.proofs.end_of.Statement.{statement}
 use Rattle.lanes.proofs.end_of.Tie as tie
-use Rattle.lanes.proofs.end_of.Reads as reads
-use Rattle.lanes.proofs.end_of.Lts as lts
-use Rattle.lanes.proofs.word32.Reads as word32-reads
 
 add-if1 : tie.Need-add-if1
 add-if1 c = search needs

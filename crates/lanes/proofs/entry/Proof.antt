@@ -3,10 +3,6 @@ use Rattle.lanes.proofs.Cases.{row-pair, row-group}
 use borrow.Author.Needs.{needs}
 use Rattle.lanes.proofs.entry.Statement.{statement}
 use Rattle.lanes.proofs.entry.Tie as tie
-use Rattle.lanes.proofs.entry.Reads as reads
-use Rattle.lanes.proofs.entry.Lts as lts
-use Rattle.lanes.proofs.end_of.Reads as end-of-reads
-use Rattle.lanes.proofs.word32.Reads as word32-reads
 
 mul-past : tie.Need-mul-past
 mul-past c = search needs

@@ -6,11 +6,6 @@ use Rattle.lanes.proofs.Heads.{over-end, over-time, takes}
 use borrow.Author.Needs.{needs}
 use Rattle.lanes.proofs.give.Statement.{statement}
 use Rattle.lanes.proofs.give.Tie as tie
-use Rattle.lanes.proofs.give.Reads as reads
-use Rattle.lanes.proofs.give.Lts as lts
-use Rattle.lanes.proofs.composition.Reads as composition-reads
-use Rattle.lanes.proofs.shift_next.Reads as shift-next-reads
-use Rattle.lanes.proofs.sync_at.Reads as sync-at-reads
 
 sub-if1 : tie.Need-sub-if1
 sub-if1 c = search needs

@@ -2,14 +2,6 @@ use Rattle.lanes.proofs.Heads.{no-size, no-time, no-place, gives}
 use borrow.Author.Needs.{needs}
 use Rattle.lanes.proofs.next.Statement.{statement}
 use Rattle.lanes.proofs.next.Tie as tie
-use Rattle.lanes.proofs.next.Reads as reads
-use Rattle.lanes.proofs.next.Lts as lts
-use Rattle.lanes.proofs.give.Reads as give-reads
-use Rattle.lanes.proofs.groups.Reads as groups-reads
-use Rattle.lanes.proofs.pairs.Reads as pairs-reads
-use Rattle.lanes.proofs.place_next.Reads as place-next-reads
-use Rattle.lanes.proofs.run_next.Reads as run-next-reads
-use Rattle.lanes.proofs.size_at.Reads as size-at-reads
 
 returns : tie.Need-returns
 returns c = no-size (c .before .before .before .before .args .file .now) (c .before .before .before .before .args .track) (c .before .before .before .before .args .lane) (c .if1 .taken)

@@ -2,10 +2,6 @@ use Rattle.lanes.proofs.Cases.{offset-wide, offset-narrow}
 use borrow.Author.Needs.{needs}
 use Rattle.lanes.proofs.offset_at.Statement.{statement}
 use Rattle.lanes.proofs.offset_at.Tie as tie
-use Rattle.lanes.proofs.offset_at.Reads as reads
-use Rattle.lanes.proofs.offset_at.Lts as lts
-use Rattle.lanes.proofs.word32.Reads as word32-reads
-use Rattle.lanes.proofs.word64.Reads as word64-reads
 
 mul-word64 : tie.Need-mul-word64
 mul-word64 c = search needs

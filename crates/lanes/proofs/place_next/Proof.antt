@@ -2,9 +2,6 @@ use Rattle.lanes.proofs.Cases.{place-one}
 use borrow.Author.Needs.{needs}
 use Rattle.lanes.proofs.place_next.Statement.{statement}
 use Rattle.lanes.proofs.place_next.Tie as tie
-use Rattle.lanes.proofs.place_next.Reads as reads
-use Rattle.lanes.proofs.place_next.Lts as lts
-use Rattle.lanes.proofs.place_refill.Reads as place-refill-reads
 
 place-refill-requires : tie.Need-place-refill-requires
 place-refill-requires c κs = search needs

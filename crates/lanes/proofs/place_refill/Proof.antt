@@ -1,4 +1,4 @@
-use Prim.Native.Nat.{ℕ, _+_, _-_, _≤_}
+use Prim.Native.Nat.{ℕ, _-_}
 use mathlib.Core.Path.{_≡_, refl, sym, ap, _∙_}
 use mathlib.Core.List.{List, _∷_}
 use native.Mathlib.Omega.{arith}
@@ -9,10 +9,6 @@ use Rattle.lanes.specs.Rows.{rowsOf, toldRuns}
 use Rattle.lanes.proofs.Cases.{place-past, place-end, place-next, place-one}
 use Rattle.lanes.proofs.place_refill.Statement.{statement}
 use Rattle.lanes.proofs.place_refill.Tie as tie
-use Rattle.lanes.proofs.place_refill.Reads as reads
-use Rattle.lanes.proofs.place_refill.Lts as lts
-use Rattle.lanes.proofs.offset_at.Reads as offset-at-reads
-use Rattle.lanes.proofs.run_next.Reads as run-next-reads
 
 abbrev Inv-loop : tie.InvT-loop
 Inv-loop file rows t left₀ at₀ chunk₀ runs₀ left at chunk runs = (ss : List ℕ) → placesAt (rowsOf file rows) (chunks file t) left at chunk runs ss ≡ placesAt (rowsOf file rows) (chunks file t) left₀ at₀ chunk₀ runs₀ ss

@@ -2,9 +2,6 @@ use Rattle.lanes.proofs.Cases.{run-one}
 use borrow.Author.Needs.{needs}
 use Rattle.lanes.proofs.run_next.Statement.{statement}
 use Rattle.lanes.proofs.run_next.Tie as tie
-use Rattle.lanes.proofs.run_next.Reads as reads
-use Rattle.lanes.proofs.run_next.Lts as lts
-use Rattle.lanes.proofs.run_refill.Reads as run-refill-reads
 
 run-refill-requires : tie.Need-run-refill-requires
 run-refill-requires c κs = search needs

@@ -1,5 +1,5 @@
-use Prim.Native.Nat.{ℕ, _+_, _-_, _≤_}
-use mathlib.Core.Path.{_≡_, refl, sym, _∙_}
+use Prim.Native.Nat.{_-_}
+use mathlib.Core.Path.{_≡_, refl, _∙_}
 use native.Mathlib.Omega.{arith}
 use borrow.Author.Needs.{needs}
 use Rattle.lanes.specs.Lane.{runsAt}
@@ -7,9 +7,6 @@ use Rattle.lanes.specs.Rows.{rowsOf}
 use Rattle.lanes.proofs.Cases.{run-done, run-next, run-one}
 use Rattle.lanes.proofs.run_refill.Statement.{statement}
 use Rattle.lanes.proofs.run_refill.Tie as tie
-use Rattle.lanes.proofs.run_refill.Reads as reads
-use Rattle.lanes.proofs.run_refill.Lts as lts
-use Rattle.lanes.proofs.entry.Reads as entry-reads
 
 abbrev Inv-loop : tie.InvT-loop
 Inv-loop file rows i₀ left₀ value₀ i left value = runsAt (rowsOf file rows) i left value ≡ runsAt (rowsOf file rows) i₀ left₀ value₀

@@ -1,11 +1,7 @@
-use Rattle.lanes.proofs.Cases.{shift-absent, shift-none, shift-one}
+use Rattle.lanes.proofs.Cases.{shift-none, shift-one}
 use borrow.Author.Needs.{needs}
 use Rattle.lanes.proofs.shift_next.Statement.{statement}
 use Rattle.lanes.proofs.shift_next.Tie as tie
-use Rattle.lanes.proofs.shift_next.Reads as reads
-use Rattle.lanes.proofs.shift_next.Lts as lts
-use Rattle.lanes.proofs.pairs.Reads as pairs-reads
-use Rattle.lanes.proofs.run_next.Reads as run-next-reads
 
 enum-known-o : tie.Need-enum-known-o
 enum-known-o c = search needs

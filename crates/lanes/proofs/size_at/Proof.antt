@@ -2,9 +2,6 @@ use Rattle.lanes.proofs.Cases.{size-listed, size-common}
 use borrow.Author.Needs.{needs}
 use Rattle.lanes.proofs.size_at.Statement.{statement}
 use Rattle.lanes.proofs.size_at.Tie as tie
-use Rattle.lanes.proofs.size_at.Reads as reads
-use Rattle.lanes.proofs.size_at.Lts as lts
-use Rattle.lanes.proofs.word32.Reads as word32-reads
 
 mul-word32 : tie.Need-mul-word32
 mul-word32 c = search needs

@@ -1,9 +1,6 @@
 use borrow.Author.Needs.{needs}
 use Rattle.lanes.proofs.start.Statement.{statement}
 use Rattle.lanes.proofs.start.Tie as tie
-use Rattle.lanes.proofs.start.Reads as reads
-use Rattle.lanes.proofs.start.Lts as lts
-use Rattle.lanes.proofs.new_runs.Reads as new-runs-reads
 
 new-runs-requires : tie.Need-new-runs-requires
 new-runs-requires c κs = search needs

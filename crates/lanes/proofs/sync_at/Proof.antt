@@ -2,9 +2,6 @@ use Rattle.lanes.proofs.Cases.{sync-all, sync-past, sync-hit, sync-miss
 use borrow.Author.Needs.{needs}
 use Rattle.lanes.proofs.sync_at.Statement.{statement}
 use Rattle.lanes.proofs.sync_at.Tie as tie
-use Rattle.lanes.proofs.sync_at.Reads as reads
-use Rattle.lanes.proofs.sync_at.Lts as lts
-use Rattle.lanes.proofs.word32.Reads as word32-reads
 
 enum-known-o : tie.Need-enum-known-o
 enum-known-o c = search needs

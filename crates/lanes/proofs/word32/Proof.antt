@@ -1,14 +1,9 @@
-use mathlib.Core.Path.{refl}
 use native.Mathlib.Omega.{arith}
 use Rattle.numbers.proofs.Chain.{by32}
 use Rattle.lanes.proofs.Words.{word-is, word-not}
 use borrow.Author.Needs.{needs}
 use Rattle.lanes.proofs.word32.Statement.{statement}
 use Rattle.lanes.proofs.word32.Tie as tie
-use Rattle.lanes.proofs.word32.Reads as reads
-use Rattle.lanes.proofs.word32.Lts as lts
-use Rattle.lanes.proofs.spot.Reads as spot-reads
-use Rattle.numbers.proofs.u32_at.Reads as u32-at-reads
 
 spot-requires : tie.Need-spot-requires
 spot-requires c κs = search needs
