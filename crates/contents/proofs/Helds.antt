@@ -17,8 +17,8 @@ use Rattle.readers.proofs.Picks.{further, unread}
 use Rattle.keys.proofs.Picks as key
 use Rattle.keys.specs.Key.{keys, keyOf}
 use Rattle.keys.specs.declared.Key.the-variants.{Absent}
-use Rattle.contents.specs.Before.{sum}
-use Rattle.contents.specs.Kin.{Boxes, at, stands}
+use Rattle.kin.specs.Before.{sum}
+use Rattle.kin.specs.Kin.{Boxes, at, stands}
 use Rattle.contents.specs.Held.{keyAt, numberIn, trackFrom}
 
 -- AS MUCH OF THE BYTES AS THERE ARE

@@ -1,5 +1,3 @@
-pub mod Befores
-pub mod Kins
 pub mod Helds
 mod Unique
 mod Vectors

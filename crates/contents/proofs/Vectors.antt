@@ -13,8 +13,8 @@ use Rattle.rows.specs.declared.Judged.the-variants.{Fine, Wrong}
 use Rattle.places.specs.Kinds.{trak, trex, tkhd, mdia, url, stsz, stco, co64, mfhd, traf, tfhd, trun}
 use Rattle.readers.specs.Readers.{readers, pick}
 use Rattle.keys.specs.Key.{keys, pickKey}
-use Rattle.contents.specs.Before.{some, sum}
-use Rattle.contents.specs.Kin.{boxes}
+use Rattle.kin.specs.Before.{some, sum}
+use Rattle.kin.specs.Kin.{boxes}
 use Rattle.contents.specs.Held.{trackFrom}
 use Rattle.contents.specs.Contents.{boxFault}
 

@@ -11,7 +11,7 @@ use Rattle.rows.specs.declared.Judged.the-variants.{Fine, Wrong}
 use Rattle.readers.specs.Readers.{faultOf}
 use Rattle.keys.specs.declared.Key.{Key}
 use Rattle.keys.specs.declared.Key.the-variants.{Absent, Is}
-use Rattle.contents.specs.Kin.{Boxes, at, twice, crowded}
+use Rattle.kin.specs.Kin.{Boxes, at, twice, crowded}
 use Rattle.contents.specs.Held.{partOf, keyAt, refusalOf}
 
 -- a refusal of a box that begins at `start`; 9 where its position is no 64-bit number, which no file's box has

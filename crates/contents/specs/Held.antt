@@ -12,8 +12,8 @@ use Rattle.places.specs.Visit.{boxLimit}
 use Rattle.keys.specs.Key.{keyOf}
 use Rattle.keys.specs.declared.Key.{Key}
 use Rattle.keys.specs.declared.Key.the-variants.{Absent, Is}
-use Rattle.contents.specs.Before.{some, sum}
-use Rattle.contents.specs.Kin.{Boxes, at, stands}
+use Rattle.kin.specs.Before.{some, sum}
+use Rattle.kin.specs.Kin.{Boxes, at, stands}
 
 -- how many samples a track may have
 abbrev pub sampleLimit : ℕ

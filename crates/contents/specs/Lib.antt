@@ -1,4 +1,2 @@
-pub mod Before
-pub mod Kin
 pub mod Held
 pub mod Contents

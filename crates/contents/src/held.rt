@@ -7,10 +7,9 @@ ghost use lib.ListN.{take, drop};
 ghost use Rattle.numbers.specs.Field.{when};
 ghost use Rattle.places.specs.Kinds.{tfhd};
 ghost use Rattle.places.specs.Visit.{boxLimit};
-ghost use Rattle.contents.specs.Before.{sum};
-ghost use Rattle.contents.specs.Kin.{boxes, at, stands};
+ghost use Rattle.kin.specs.Before.{sum};
+ghost use Rattle.kin.specs.Kin.{boxes, at, stands};
 ghost use Rattle.contents.specs.Held.{sampleLimit, keyAt, numberIn, is, used, trackOf, runOf, total, refusalOf};
-use crate::kin;
 use keys::Key;
 use places::kinds;
 
@@ -68,6 +67,21 @@ fn is(key: Key, n: u64) -> bool
     }
 }
 
+fn stands(
+    kind: usize,
+    j: usize,
+    starts: &[usize; 4096],
+    sizes: &[usize; 4096],
+    kinds: &[usize; 4096],
+    parents: &[usize; 4096],
+    placed: &[usize; 4096],
+) -> bool
+    requires { ⌜ j < 4096 ⌝ }
+    ensures { λ r. ⌜ r ≡ stands (boxes (now (starts .entry)) (now (sizes .entry)) (now (kinds .entry)) (now (parents .entry)) (now (placed .entry))) kind j ⌝ }
+{
+    (placed[j] == 1) & (kinds[j] == kind)
+}
+
 // Whether box j stands in its place, is of this type and has this number.
 fn has_number(
     s: &[u8],
@@ -83,7 +97,7 @@ fn has_number(
     requires { ⌜ j < 4096 ⌝ }
     ensures { λ r. ⌜ r ≡ _&&_ (stands (boxes (now (starts .entry)) (now (sizes .entry)) (now (kinds .entry)) (now (parents .entry)) (now (placed .entry))) kind j) (is (keyAt (now (s .entry)) (boxes (now (starts .entry)) (now (sizes .entry)) (now (kinds .entry)) (now (parents .entry)) (now (placed .entry))) j) x) ⌝ }
 {
-    if kin::stands(kind, j, starts, sizes, kinds, parents, placed) {
+    if stands(kind, j, starts, sizes, kinds, parents, placed) {
         return is(key_at(s, j, starts, sizes, kinds, parents, placed), x);
     }
     false
@@ -133,7 +147,7 @@ fn heads(
     ensures { λ r. ⌜ r ≡ _&&_ (eqb (at (now (parents .entry)) k) p) (stands (boxes (now (starts .entry)) (now (sizes .entry)) (now (kinds .entry)) (now (parents .entry)) (now (placed .entry))) tfhd k) ⌝ }
 {
     if parents[k] == p {
-        return kin::stands(
+        return stands(
             kinds::TFHD as usize,
             k,
             starts,
@@ -190,7 +204,7 @@ fn run_of(
     requires { ⌜ j < 4096 ⌝ }
     ensures { λ r. ⌜ r ≡ runOf (now (s .entry)) (boxes (now (starts .entry)) (now (sizes .entry)) (now (kinds .entry)) (now (parents .entry)) (now (placed .entry))) n track j ⌝ }
 {
-    if kin::stands(
+    if stands(
         kinds::TRUN as usize,
         j,
         starts,

@@ -6,7 +6,7 @@ ghost use lib.Dec.{eqb};
 ghost use Rattle.numbers.specs.Field.{when};
 ghost use Rattle.places.specs.Kinds.{trex};
 ghost use Rattle.contents.specs.Held.{keyAt};
-ghost use Rattle.contents.specs.Kin.{boxes};
+ghost use Rattle.kin.specs.Kin.{boxes};
 ghost use Rattle.contents.specs.Contents.{moved, movedAll, contentOf, numbered, boxFault};
 use keys::Key;
 use numbers::Refusal;
@@ -14,7 +14,6 @@ use places::kinds;
 use rows::Judged;
 
 pub mod held;
-pub mod kin;
 
 // A refusal of a box that begins at `start`.
 fn moved(start: usize, number: u32, detail: usize) -> Judged

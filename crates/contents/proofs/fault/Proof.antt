@@ -3,7 +3,7 @@ use native.Mathlib.Omega.{arith}
 use lib.ListN.{getD}
 use Rattle.places.specs.Visit.{boxLimit}
 use Rattle.numbers.proofs.Chain.{is-eq, is-ne, is-lt, not-lt, by-true, by-false}
-use Rattle.contents.specs.Kin.{boxes, twice, crowded}
+use Rattle.kin.specs.Kin.{boxes, twice, crowded}
 use borrow.Author.Needs.{needs}
 use Rattle.contents.proofs.fault.Statement.{statement}
 use Rattle.contents.proofs.fault.Tie as tie

@@ -1,7 +1,7 @@
 use mathlib.Core.Path.{sym, ap, ap₂, _∙_}
 use lib.ListN.{getD}
 use Rattle.numbers.proofs.Chain.{is-eq, is-ne}
-use Rattle.contents.specs.Kin.{boxes}
+use Rattle.kin.specs.Kin.{boxes}
 use Rattle.contents.specs.Contents.{moved, numbered}
 use borrow.Author.Needs.{needs}
 use Rattle.contents.proofs.numbered.Statement.{statement}

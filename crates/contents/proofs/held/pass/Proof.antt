@@ -3,10 +3,10 @@ use mathlib.Core.Path.{_≡_, sym, ap}
 use Prim.Native.Nat.{_+_, _-_, _≤_}
 use native.Mathlib.Omega.{arith}
 use borrow.Author.Tests.{lt-ltb, le-ltb}
-use Rattle.contents.specs.Before.{sum}
-use Rattle.contents.specs.Kin.{boxes}
+use Rattle.kin.specs.Before.{sum}
+use Rattle.kin.specs.Kin.{boxes}
 use Rattle.contents.specs.Held.{sampleLimit, runOf}
-use Rattle.contents.proofs.Befores.{sum-none, sum-next}
+use Rattle.kin.proofs.Befores.{sum-none, sum-next}
 use Rattle.contents.proofs.Helds.{sum-grows}
 use Rattle.contents.proofs.held.pass.Statement.{statement}
 use Rattle.contents.proofs.held.pass.Tie as tie

@@ -1,7 +1,7 @@
 use mathlib.Core.Path.{refl, sym, ap, _∙_}
 use Rattle.numbers.proofs.Chain.{by-true, by-false, is-eq, is-ne}
 use Rattle.places.specs.Kinds.{trun}
-use Rattle.contents.specs.Kin.{boxes, stands}
+use Rattle.kin.specs.Kin.{boxes, stands}
 use Rattle.contents.specs.Held.{numberIn, trackOf}
 use borrow.Author.Needs.{needs}
 use Rattle.contents.proofs.held.run_of.Statement.{statement}

@@ -2,8 +2,8 @@ use mathlib.Core.Path.{refl, sym, ap, _∙_}
 use Prim.Native.Nat.{_+_}
 use lib.Dec.{ltb}
 use Rattle.numbers.proofs.Chain.{is-eq, is-ne}
-use Rattle.contents.specs.Before.{sum}
-use Rattle.contents.specs.Kin.{boxes}
+use Rattle.kin.specs.Before.{sum}
+use Rattle.kin.specs.Kin.{boxes}
 use Rattle.contents.specs.Held.{sampleLimit, trackOf, runOf}
 use borrow.Author.Needs.{needs}
 use Rattle.contents.proofs.held.too_long.Statement.{statement}

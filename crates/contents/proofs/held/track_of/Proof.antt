@@ -2,7 +2,7 @@ use borrow.Author.Needs.{needs}
 use mathlib.Core.Path.{_≡_, refl, sym, ap, _∙_}
 use Prim.Native.Nat.{_-_}
 use lib.ListN.{getD}
-use Rattle.contents.specs.Kin.{boxes}
+use Rattle.kin.specs.Kin.{boxes}
 use Rattle.contents.specs.Held.{numberIn, trackFrom}
 use Rattle.contents.proofs.Helds.{track-left, track-here, track-on, track-none}
 use Rattle.contents.proofs.held.track_of.Statement.{statement}

@@ -3,10 +3,10 @@ use mathlib.Core.Path.{_≡_, sym, ap, _∙_}
 use mathlib.Core.Bool.{false, _&&_}
 use Prim.Native.Nat.{_-_, _≤_}
 use native.Mathlib.Omega.{arith}
-use Rattle.contents.specs.Before.{some}
-use Rattle.contents.specs.Kin.{boxes, stands}
+use Rattle.kin.specs.Before.{some}
+use Rattle.kin.specs.Kin.{boxes, stands}
 use Rattle.contents.specs.Held.{keyAt, is}
-use Rattle.contents.proofs.Befores.{some-none, some-next, some-at}
+use Rattle.kin.proofs.Befores.{some-none, some-next, some-at}
 use Rattle.contents.proofs.held.used.Statement.{statement}
 use Rattle.contents.proofs.held.used.Tie as tie
 

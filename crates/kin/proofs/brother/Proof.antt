@@ -1,10 +1,10 @@
 use mathlib.Core.Bool.{_&&_}
 use lib.ListN.{getD}
 use lib.Dec.{eqb}
-use Rattle.contents.proofs.Kins.{by-forms}
+use Rattle.kin.proofs.Kins.{by-forms}
 use borrow.Author.Needs.{needs}
-use Rattle.contents.proofs.kin.brother.Statement.{statement}
-use Rattle.contents.proofs.kin.brother.Tie as tie
+use Rattle.kin.proofs.brother.Statement.{statement}
+use Rattle.kin.proofs.brother.Tie as tie
 
 mul-result : tie.Need-mul-result
 mul-result c = search needs

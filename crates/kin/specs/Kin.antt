@@ -3,10 +3,11 @@ use Prim.Native.Nat.{ℕ, _-_}
 use mathlib.Core.List.{List}
 use mathlib.Core.Bool.{Bool, true, false, _&&_, _||_}
 use lib.ListN.{getD}
-use lib.Dec.{eqb, leb}
+use lib.Dec.{eqb, ltb, leb}
 use Rattle.numbers.specs.Field.{when}
+use Rattle.places.specs.Visit.{boxLimit}
 use Rattle.places.specs.Kinds.{moof, mdat, emsg, trak, trex, url, stco, co64, avc1, mp4a, vp09, tx3g, traf}
-use Rattle.contents.specs.Before.{some, sum}
+use Rattle.kin.specs.Before.{some, sum}
 
 -- starts, sizes, types, parents (the parent's row and 1, or 0 at the top), and 1 where a box stands in its place
 pub record Boxes : Type 0 where
@@ -40,9 +41,9 @@ abbrev pub brother : Boxes → ℕ → ℕ → Bool
 brother t i j =
     _&&_ (_&&_ (eqb (at (t .placed) j) 1) (eqb (at (t .parents) j) (at (t .parents) i))) (eqb (form (at (t .kinds) j)) (form (at (t .kinds) i)))
 
--- a once-only box that comes a second time
+-- a once-only box that comes a second time; behind the last row of the tables there is no box
 abbrev pub twice : Boxes → ℕ → Bool
-twice t i = when (repeats (at (t .kinds) i)) false (some (brother t i) i)
+twice t i = when (ltb i boxLimit) (when (repeats (at (t .kinds) i)) false (some (brother t i) i)) false
 
 -- how many tracks and fragments there may be (document 01, Limits)
 abbrev pub trackLimit : ℕ
@@ -62,5 +63,7 @@ earlier t kind i = sum (λ j. one (stands t kind j)) i
 -- one trak or one moof too many (A8)
 abbrev pub crowded : Boxes → ℕ → Bool
 crowded t i =
-    when (eqb (at (t .kinds) i) trak) (leb trackLimit (earlier t trak i))
-    (when (eqb (at (t .kinds) i) moof) (leb fragmentLimit (earlier t moof i)) false)
+    when (ltb i boxLimit)
+    (when (eqb (at (t .kinds) i) trak) (leb trackLimit (earlier t trak i))
+    (when (eqb (at (t .kinds) i) moof) (leb fragmentLimit (earlier t moof i)) false))
+    false

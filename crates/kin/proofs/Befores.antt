@@ -7,7 +7,7 @@ use native.Mathlib.Omega.{arith}
 use lib.Dec.{ltb}
 use borrow.Author.Tests.{ltb-true, ltb-false}
 use Rattle.numbers.specs.Field.{when}
-use Rattle.contents.specs.Before.{some, sum}
+use Rattle.kin.specs.Before.{some, sum}
 
 pub some-none : (p : ℕ → Bool) → some p 0 ≡ false
 unfolding some

@@ -2,8 +2,8 @@ use mathlib.Core.Path.{refl}
 use Rattle.numbers.proofs.Chain.{is-eq, is-ne}
 use Rattle.places.specs.Kinds.{co64}
 use borrow.Author.Needs.{needs}
-use Rattle.contents.proofs.kin.form.Statement.{statement}
-use Rattle.contents.proofs.kin.form.Tie as tie
+use Rattle.kin.proofs.form.Statement.{statement}
+use Rattle.kin.proofs.form.Tie as tie
 
 cast-if1 : tie.Need-cast-if1
 cast-if1 c = search needs

@@ -1,8 +1,8 @@
 // What a recorded box has to do with those before it.
 ghost use mathlib.Core.Path.{_≡_};
 ghost use Prim.Native.Nat.{_<_};
-ghost use Rattle.contents.specs.Before.{some};
-ghost use Rattle.contents.specs.Kin.{boxes, stands, repeats, form, brother, twice, one, earlier, crowded};
+ghost use Rattle.kin.specs.Before.{some};
+ghost use Rattle.kin.specs.Kin.{boxes, stands, repeats, form, brother, twice, one, earlier, crowded};
 use places::kinds;
 
 // How many tracks and fragments there may be.
@@ -74,7 +74,7 @@ fn has_brother(
 }
 
 // Whether box i is a once-only box that comes a second time.
-pub(crate) fn twice(
+pub fn twice(
     i: usize,
     starts: &[usize; 4096],
     sizes: &[usize; 4096],
@@ -82,16 +82,18 @@ pub(crate) fn twice(
     parents: &[usize; 4096],
     placed: &[usize; 4096],
 ) -> bool
-    requires { ⌜ i < 4096 ⌝ }
     ensures { λ r. ⌜ r ≡ twice (boxes (now (starts .entry)) (now (sizes .entry)) (now (kinds .entry)) (now (parents .entry)) (now (placed .entry))) i ⌝ }
 {
+    if 4096 <= i {
+        return false;
+    }
     if repeats(kinds[i]) {
         return false;
     }
     has_brother(i, starts, sizes, kinds, parents, placed)
 }
 
-pub(crate) fn stands(
+fn stands(
     kind: usize,
     j: usize,
     starts: &[usize; 4096],
@@ -135,7 +137,7 @@ fn earlier(
 }
 
 // Whether box i is one track or one fragment too many.
-pub(crate) fn crowded(
+pub fn crowded(
     i: usize,
     starts: &[usize; 4096],
     sizes: &[usize; 4096],
@@ -143,9 +145,11 @@ pub(crate) fn crowded(
     parents: &[usize; 4096],
     placed: &[usize; 4096],
 ) -> bool
-    requires { ⌜ i < 4096 ⌝ }
     ensures { λ r. ⌜ r ≡ crowded (boxes (now (starts .entry)) (now (sizes .entry)) (now (kinds .entry)) (now (parents .entry)) (now (placed .entry))) i ⌝ }
 {
+    if 4096 <= i {
+        return false;
+    }
     let kind = kinds[i];
     if kind == kinds::TRAK as usize {
         return TRACKS

@@ -2,12 +2,12 @@ use borrow.Author.Needs.{needs}
 use mathlib.Core.Path.{_≡_, sym, ap, ap₂, _∙_}
 use Prim.Native.Nat.{ℕ, _+_, _-_, _≤_}
 use native.Mathlib.Omega.{arith}
-use Rattle.contents.specs.Before.{sum}
-use Rattle.contents.specs.Kin.{boxes, stands, one}
-use Rattle.contents.proofs.Befores.{sum-none, sum-next}
-use Rattle.contents.proofs.Kins.{one-most}
-use Rattle.contents.proofs.kin.earlier.Statement.{statement}
-use Rattle.contents.proofs.kin.earlier.Tie as tie
+use Rattle.kin.specs.Before.{sum}
+use Rattle.kin.specs.Kin.{boxes, stands, one}
+use Rattle.kin.proofs.Befores.{sum-none, sum-next}
+use Rattle.kin.proofs.Kins.{one-most}
+use Rattle.kin.proofs.earlier.Statement.{statement}
+use Rattle.kin.proofs.earlier.Tie as tie
 
 abbrev Inv-loop : tie.InvT-loop
 Inv-loop kind i starts sizes kinds parents placed n₀ j₀ n j = (j ≤ i) × (n ≤ j) × (n ≡ sum (λ k. one (stands (boxes starts sizes kinds parents placed) kind k)) j)

@@ -3,11 +3,11 @@ use mathlib.Core.Bool.{false}
 use Prim.Native.Nat.{_-_, _≤_}
 use native.Mathlib.Omega.{arith}
 use borrow.Author.Needs.{needs}
-use Rattle.contents.specs.Before.{some}
-use Rattle.contents.specs.Kin.{boxes, brother}
-use Rattle.contents.proofs.Befores.{some-none, some-next, some-at}
-use Rattle.contents.proofs.kin.has_brother.Statement.{statement}
-use Rattle.contents.proofs.kin.has_brother.Tie as tie
+use Rattle.kin.specs.Before.{some}
+use Rattle.kin.specs.Kin.{boxes, brother}
+use Rattle.kin.proofs.Befores.{some-none, some-next, some-at}
+use Rattle.kin.proofs.has_brother.Statement.{statement}
+use Rattle.kin.proofs.has_brother.Tie as tie
 
 abbrev Inv-loop : tie.InvT-loop
 Inv-loop i starts sizes kinds parents placed j₀ j = (j ≤ i) × (some (brother (boxes starts sizes kinds parents placed) i) j ≡ false)

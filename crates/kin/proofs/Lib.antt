@@ -1,0 +1,4 @@
+pub mod Befores
+mod Kins
+mod Unique
+mod Vectors
