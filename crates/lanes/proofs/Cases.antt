@@ -8,63 +8,21 @@ use lib.ListN.{take, drop, replicate}
 use lib.Dec.{eqb}
 use borrow.Author.Tests.{eq-eqb, ne-eqb}
 use Rattle.numbers.specs.Field.{when, orZero}
-use Rattle.numbers.proofs.Chain.{is-lt, not-lt, is-eq, is-ne, by-true, by-false}
-use Rattle.lanes.specs.Tables.{valuesOf, pairAt, pairs, sizeAt, offsetAt, chunks, Syncs, those, numberAt, numbers}
-use Rattle.lanes.specs.Samples.{starts, place, firstOr, rest, flagOf, pastOf}
+use Rattle.tables.specs.Tables.{valuesOf, pairs, offsetAt, chunks, Syncs, those, numberAt, numbers}
+use Rattle.tables.specs.Samples.{starts, place, firstOr, rest, flagOf, pastOf}
 use Rattle.lanes.specs.Lane.{runsAt, runsLeft, placesAt, shiftsLeft, syncsLeft}
-use Rattle.lanes.specs.Rows.{pairRows, endAt, rowBy, rowAt, rowsOf, toldRuns}
-use Rattle.lanes.specs.declared.Table.{Table}
-use Rattle.lanes.specs.declared.Optional.{Optional}
-use Rattle.lanes.specs.declared.Optional.the-variants.{Absent, At}
-use Rattle.lanes.specs.declared.Sizes.{Sizes}
-use Rattle.lanes.specs.declared.Chunks.{Chunks}
-use Rattle.lanes.specs.declared.Rows.{Rows}
-use Rattle.lanes.specs.declared.Row.{Row}
+use Rattle.tables.specs.Rows.{pairRows, rowAt, rowsOf}
+use Rattle.lanes.specs.Steps.{toldRuns}
+use Rattle.tables.specs.declared.Table.{Table}
+use Rattle.tables.specs.declared.Optional.{Optional}
+use Rattle.tables.specs.declared.Optional.the-variants.{Absent, At}
+use Rattle.tables.specs.declared.Chunks.{Chunks}
+use Rattle.tables.specs.declared.Rows.{Rows}
+use Rattle.tables.specs.declared.Row.{Row}
 use Rattle.lanes.specs.declared.Runs.{Runs}
 use Rattle.lanes.specs.declared.RunStep.{RunStep}
 use Rattle.lanes.specs.declared.RunStep.the-variants as run
-use Rattle.lanes.proofs.Lists.{list-cons, list-nil, rows-pairs}
-
--- ENTRIES
-
-module _ (f : List ℕ) (t : Rows) (i : ℕ) where
-  pub end-next : (x : ℕ) → i + 1 < t .count → x ≡ orZero 4 f (t .at + (i * 12 + 12)) → x ≡ endAt f t i
-  unfolding endAt
-  end-next x h e = is-lt _ _ x (i + 1) (t .count) h e
-
-  pub end-last : t .count ≤ i + 1 → t .chunks + 1 ≡ endAt f t i
-  unfolding endAt
-  end-last h = not-lt _ _ (t .chunks + 1) (i + 1) (t .count) h refl
-
-  pub row-pair : (a b : ℕ) → t .grouped ≡ false → a ≡ orZero 4 f (t .at + i * 8) → b ≡ orZero 4 f (t .at + (i * 8 + 4)) → _≡_ {A = Row} (record { count = a; value = b }) (rowAt f t i)
-  unfolding rowBy pairAt
-  row-pair a b g e h =
-      let s : _≡_ {A = Row} (record { count = a; value = b }) (rowBy false f t i) = rw (e, h) in
-      s ∙ sym (ap (λ (x : Bool). rowBy x f t i) g)
-
-  pub row-group : (k a b c : ℕ) → t .grouped ≡ true → a ≡ orZero 4 f (t .at + i * 12) → b ≡ orZero 4 f (t .at + (i * 12 + 4)) → c ≡ endAt f t i → k ≡ c - a → _≡_ {A = Row} (record { count = k; value = b }) (rowAt f t i)
-  unfolding rowBy
-  row-group k a b c g e h z q =
-      let s : _≡_ {A = Row} (record { count = k; value = b }) (rowBy true f t i) = rw (q, e, h, z) in
-      s ∙ sym (ap (λ (x : Bool). rowBy x f t i) g)
-
-module _ (f : List ℕ) (t : Sizes) (i : ℕ) where
-  pub size-listed : (x : ℕ) → t .common ≡ 0 → x ≡ orZero 4 f (t .at + i * 4) → x ≡ sizeAt f t i
-  unfolding sizeAt
-  size-listed x h e = is-eq _ _ x (t .common) 0 h e
-
-  pub size-common : (t .common ≡ 0 → ⊥) → t .common ≡ sizeAt f t i
-  unfolding sizeAt
-  size-common h = is-ne _ _ (t .common) (t .common) 0 h refl
-
-module _ (f : List ℕ) (t : Chunks) (i : ℕ) where
-  pub offset-wide : (x : ℕ) → t .wide ≡ true → x ≡ orZero 8 f (t .at + i * 8) → x ≡ offsetAt f t i
-  unfolding offsetAt
-  offset-wide x h e = by-true _ _ x (t .wide) h e
-
-  pub offset-narrow : (x : ℕ) → t .wide ≡ false → x ≡ orZero 4 f (t .at + i * 4) → x ≡ offsetAt f t i
-  unfolding offsetAt
-  offset-narrow x h e = by-false _ _ x (t .wide) h e
+use Rattle.tables.proofs.Lists.{list-cons, list-nil, rows-pairs}
 
 -- RUNS
 

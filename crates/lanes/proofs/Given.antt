@@ -6,10 +6,11 @@ use mathlib.Core.List.{List, [], _∷_}
 use mathlib.Core.Bool.{Bool, true, false}
 use lib.ListN.{take}
 use Rattle.numbers.specs.Field.{when}
-use Rattle.lanes.specs.Samples.{samplesOf}
-use Rattle.lanes.specs.Lane.{left, fresh, held, view, shows}
-use Rattle.lanes.specs.declared.Track.{Track}
-use Rattle.lanes.specs.declared.Sample.{Sample}
+use Rattle.tables.specs.Samples.{samplesOf}
+use Rattle.samples.specs.Lists.{held, view}
+use Rattle.lanes.specs.Lane.{left, fresh, shows}
+use Rattle.tables.specs.declared.Track.{Track}
+use Rattle.samples.specs.declared.Sample.{Sample}
 use Rattle.lanes.specs.declared.Lane.{Lane}
 use Rattle.lanes.specs.declared.Taken.{Taken}
 use Rattle.lanes.specs.declared.Taken.the-variants as taken

@@ -8,23 +8,25 @@ use lib.IntN.{ℤ}
 use borrow.Author.Tests.{lt-ltb, le-ltb}
 use Rattle.numbers.specs.Field.{when}
 use Rattle.signed.specs.Signed.{signed}
-use Rattle.lanes.specs.Tables.{pairs, groups, chunks, sizes, sizeAt}
-use Rattle.lanes.specs.Samples.{firstOr, rest, flagOf, pastOf, zipped}
-use Rattle.lanes.specs.Lane.{runsLeft, placesAt, placesLeft, shiftsLeft, syncsLeft, sizesLeft, left, none, over, view, shows}
-use Rattle.lanes.specs.Rows.{pairRows, groupRows, rowsOf, toldRuns, toldPlace, samplesFrom}
-use Rattle.lanes.specs.declared.Rows.{Rows}
-use Rattle.lanes.specs.declared.Row.{Row}
+use Rattle.tables.specs.Tables.{pairs, groups, chunks, sizes, sizeAt}
+use Rattle.tables.specs.Samples.{firstOr, rest, flagOf, pastOf, zipped}
+use Rattle.samples.specs.Lists.{none, over, view}
+use Rattle.lanes.specs.Lane.{runsLeft, placesAt, placesLeft, shiftsLeft, syncsLeft, sizesLeft, left, shows}
+use Rattle.tables.specs.Rows.{pairRows, groupRows, rowsOf}
+use Rattle.lanes.specs.Steps.{toldRuns, toldPlace, samplesFrom}
+use Rattle.tables.specs.declared.Rows.{Rows}
+use Rattle.tables.specs.declared.Row.{Row}
 use Rattle.lanes.specs.declared.Runs.{Runs}
 use Rattle.lanes.specs.declared.Place.{Place}
 use Rattle.lanes.specs.declared.RunStep.{RunStep}
 use Rattle.lanes.specs.declared.RunStep.the-variants as run
 use Rattle.lanes.specs.declared.PlaceStep.{PlaceStep}
 use Rattle.lanes.specs.declared.PlaceStep.the-variants as place
-use Rattle.lanes.specs.declared.Track.{Track}
+use Rattle.tables.specs.declared.Track.{Track}
 use Rattle.lanes.specs.declared.Lane.{Lane}
 use Rattle.lanes.specs.declared.Taken.{Taken}
 use Rattle.lanes.specs.declared.Taken.the-variants as taken
-use Rattle.lanes.proofs.Lists.{list-cons, list-nil, rows-pairs, rows-groups}
+use Rattle.tables.proofs.Lists.{list-cons, list-nil, rows-pairs, rows-groups}
 
 and-false : (x : Bool) → (x && false) ≡ false
 and-false true = refl

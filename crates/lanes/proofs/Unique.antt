@@ -5,9 +5,10 @@ use mathlib.Core.List.{List}
 use native.Mathlib.Omega.{arith}
 use Prim.Native.Nat.{ℕ}
 use denote.Ref.{now}
-use Rattle.lanes.specs.Lane.{left, shows, view}
-use Rattle.lanes.specs.declared.Track.{Track}
-use Rattle.lanes.specs.declared.Sample.{Sample}
+use Rattle.samples.specs.Lists.{view}
+use Rattle.lanes.specs.Lane.{left, shows}
+use Rattle.tables.specs.declared.Track.{Track}
+use Rattle.samples.specs.declared.Sample.{Sample}
 use Rattle.lanes.specs.declared.Lane.{Lane}
 use Rattle.lanes.specs.declared.Taken.{Taken}
 use Rattle.lanes.specs.declared.Taken.the-variants as taken

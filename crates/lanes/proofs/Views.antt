@@ -5,9 +5,10 @@ use mathlib.Core.List.{List, [], _∷_}
 use mathlib.Core.Bool.{Bool, true, false}
 use native.Mathlib.Omega.{arith}
 use Rattle.numbers.specs.Field.{when}
-use Rattle.lanes.specs.Lane.{left, held, View, none, over, one, view, shows}
-use Rattle.lanes.specs.declared.Track.{Track}
-use Rattle.lanes.specs.declared.Sample.{Sample}
+use Rattle.samples.specs.Lists.{held, View, none, over, one, view}
+use Rattle.lanes.specs.Lane.{left, shows}
+use Rattle.tables.specs.declared.Track.{Track}
+use Rattle.samples.specs.declared.Sample.{Sample}
 use Rattle.lanes.specs.declared.Lane.{Lane}
 use Rattle.lanes.specs.declared.Taken.{Taken}
 use Rattle.lanes.specs.declared.Taken.the-variants as taken

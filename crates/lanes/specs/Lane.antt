@@ -1,20 +1,18 @@
 -- The samples that a lane has left: the same tables, each from where the lane's cursor stands. `left-fresh`
 -- (proofs/Left.antt) says that a lane that begins has the samples of the track left. Assumes nothing.
-use Prim.Native.Nat.{ℕ, _+_, _^_}
-use mathlib.Core.List.{List, [], _∷_, _++_}
-use mathlib.Core.Bool.{Bool, _&&_}
+use Prim.Native.Nat.{ℕ, _+_}
+use mathlib.Core.List.{List, [], _++_}
 use lib.ListN.{take, drop, replicate}
-use lib.Dec.{ltb}
-use Rattle.numbers.specs.Field.{when}
-use Rattle.lanes.specs.Tables.{valuesOf, pairs, groups, chunks, sizes, Syncs, every, those, numbers}
-use Rattle.lanes.specs.Samples.{starts, place, zipped}
-use Rattle.lanes.specs.declared.Optional.{Optional}
-use Rattle.lanes.specs.declared.Optional.the-variants.{Absent, At}
-use Rattle.lanes.specs.declared.Row.{Row}
+use Rattle.tables.specs.Tables.{valuesOf, pairs, groups, chunks, sizes, Syncs, every, those, numbers}
+use Rattle.tables.specs.Samples.{starts, place, zipped}
+use Rattle.tables.specs.declared.Optional.{Optional}
+use Rattle.tables.specs.declared.Optional.the-variants.{Absent, At}
+use Rattle.tables.specs.declared.Row.{Row}
 use Rattle.lanes.specs.declared.Runs.{Runs}
 use Rattle.lanes.specs.declared.Place.{Place}
-use Rattle.lanes.specs.declared.Track.{Track}
-use Rattle.lanes.specs.declared.Sample.{Sample}
+use Rattle.tables.specs.declared.Track.{Track}
+use Rattle.samples.specs.Lists.{View, none, over, one}
+use Rattle.samples.specs.declared.Sample.{Sample}
 use Rattle.lanes.specs.declared.Lane.{Lane}
 use Rattle.lanes.specs.declared.Taken.{Taken}
 use Rattle.lanes.specs.declared.Taken.the-variants as taken
@@ -65,25 +63,6 @@ fresh = record {
   syncs = 0;
   place = record { left = 0; at = 0; chunk = 0; groups = begun };
 }
-
--- a sample's end is below this, and its time below that (A13, 1 and 3): else refusal 9
-abbrev pub endBound : ℕ
-endBound = 2 ^ 64
-
-abbrev pub timeBound : ℕ
-timeBound = 2 ^ 63
-
-abbrev pub held : Sample → Bool
-held s = ltb (s .offset + s .size) endBound && ltb (s .time) timeBound
-
--- what a list of samples shows: nothing, a sample that is not held, or its first and the rest
-pub data View : Type 0 where
-  none over : View
-  one : Sample → List Sample → View
-
-abbrev pub view : List Sample → View
-view [] = none
-view (s ∷ l) = when (held s) (one s l) over
 
 -- what an answer shows: a sample, and what the lane after it has left
 abbrev pub shows : List ℕ → Track → Taken → View

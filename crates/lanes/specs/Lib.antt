@@ -1,4 +1,2 @@
-pub mod Tables
-pub mod Samples
 pub mod Lane
-pub mod Rows
+pub mod Steps

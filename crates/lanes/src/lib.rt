@@ -5,67 +5,22 @@ ghost use Prim.Native.Nat.{_+_, min};
 ghost use lib.ListN.{length};
 ghost use Rattle.numbers.specs.Field.{orZero};
 ghost use Rattle.signed.specs.Signed.{signed};
-ghost use Rattle.lanes.specs.Tables.{sizeAt, offsetAt, chunks};
-ghost use Rattle.lanes.specs.Samples.{firstOr, rest, flagOf, pastOf};
-ghost use Rattle.lanes.specs.Lane.{runsLeft, shiftsLeft, syncsLeft, left, begun, fresh, view, shows};
-ghost use Rattle.lanes.specs.Rows.{pairRows, groupRows, endAt, rowAt, rowsOf, toldRuns, Steps, samplesFrom};
-use numbers::U32;
-use numbers::U64;
+ghost use Rattle.tables.specs.Tables.{sizeAt, offsetAt, chunks};
+ghost use Rattle.tables.specs.Samples.{firstOr, rest, flagOf, pastOf};
+ghost use Rattle.samples.specs.Lists.{view};
+ghost use Rattle.lanes.specs.Lane.{runsLeft, shiftsLeft, syncsLeft, left, begun, fresh, shows};
+ghost use Rattle.tables.specs.Rows.{pairRows, groupRows, endAt, rowAt, rowsOf};
+ghost use Rattle.lanes.specs.Steps.{toldRuns, Steps, samplesFrom};
+use samples::Sample;
+use tables::Chunks;
+use tables::Optional;
+use tables::Rows;
+use tables::Track;
 
 // The last position that a sample may end at, and the first time that none has (9).
 const LAST: u64 = 0xFFFF_FFFF_FFFF_FFFF;
 
 const TIME_BOUND: u64 = 0x8000_0000_0000_0000;
-
-// Where a table's entries lie, from their first byte on, and how many there are.
-pub struct Table {
-    pub at: usize,
-    pub count: u32,
-}
-
-// A table that may be absent: no ctts, or no stss.
-pub enum Optional {
-    Absent,
-    At(Table),
-}
-
-// The table stsz. common is 0 where the sizes are listed.
-pub struct Sizes {
-    pub at: usize,
-    pub count: u32,
-    pub common: u32,
-}
-
-// The chunks: wide by co64, else by stco.
-pub struct Chunks {
-    pub at: usize,
-    pub count: u32,
-    pub wide: bool,
-}
-
-// The tables of a track.
-pub struct Track {
-    pub stts: Table,
-    pub ctts: Optional,
-    pub stsc: Table,
-    pub stsz: Sizes,
-    pub stco: Chunks,
-    pub stss: Optional,
-}
-
-// A table of runs: (count, value), or stsc's (first chunk, samples per chunk, description) for that many chunks.
-struct Rows {
-    pub at: usize,
-    pub count: u32,
-    pub grouped: bool,
-    pub chunks: u32,
-}
-
-// One run.
-pub struct Row {
-    pub count: u64,
-    pub value: u32,
-}
 
 // A cursor over runs: the next row, how many of the row before are left, and their value.
 pub struct Runs {
@@ -95,122 +50,6 @@ enum PlaceStep {
     End,
 }
 
-// The position `past` bytes behind `at`, or the file's end where it is not before that: no sum passes 64 bits.
-fn spot(file: &[u8], at: usize, past: usize) -> usize
-    ensures { λ r. ⌜ r ≡ min (at + past) (length (now (file .entry))) ⌝ }
-{
-    if file.len() < at {
-        return file.len();
-    }
-    if file.len() - at < past {
-        return file.len();
-    }
-    at + past
-}
-
-// The number in 4 bytes, `past` bytes behind `at`, or 0 where they are not all in the file.
-fn word32(file: &[u8], at: usize, past: usize) -> u32
-    ensures { λ r. ⌜ r ≡ orZero 4 (now (file .entry)) (at + past) ⌝ }
-{
-    match numbers::u32_at(file, spot(file, at, past)) {
-        U32::Is(n) => n,
-        U32::Refused(_) => 0,
-    }
-}
-
-// The number in 8 bytes, `past` bytes behind `at`, or 0 where they are not all in the file.
-fn word64(file: &[u8], at: usize, past: usize) -> u64
-    ensures { λ r. ⌜ r ≡ orZero 8 (now (file .entry)) (at + past) ⌝ }
-{
-    match numbers::u64_at(file, spot(file, at, past)) {
-        U64::Is(n) => n,
-        U64::Refused(_) => 0,
-    }
-}
-
-// The rows of stts or ctts.
-fn pairs(t: Table) -> Rows
-    ensures { λ r. ⌜ r ≡ pairRows t ⌝ }
-{
-    Rows {
-        at: t.at,
-        count: t.count,
-        grouped: false,
-        chunks: 0,
-    }
-}
-
-// The rows of stsc, for that many chunks.
-fn groups(t: Table, chunks: u32) -> Rows
-    ensures { λ r. ⌜ r ≡ groupRows t chunks ⌝ }
-{
-    Rows {
-        at: t.at,
-        count: t.count,
-        grouped: true,
-        chunks: chunks,
-    }
-}
-
-// The chunk after the last of stsc's entry i.
-fn end_of(file: &[u8], rows: Rows, i: u32) -> u64
-    ensures { λ r. ⌜ r ≡ endAt (now (file .entry)) rows i ⌝ }
-{
-    if (i as u64) + 1 < (rows.count as u64) {
-        return word32(file, rows.at, (i as usize) * 12 + 12) as u64;
-    }
-    (rows.chunks as u64) + 1
-}
-
-// The row of that number, counted from 0.
-fn entry(file: &[u8], rows: Rows, i: u32) -> Row
-    ensures { λ r. ⌜ r ≡ rowAt (now (file .entry)) rows i ⌝ }
-{
-    if rows.grouped {
-        let past = (i as usize) * 12;
-        let first = word32(file, rows.at, past) as u64;
-        let per = word32(file, rows.at, past + 4);
-        let end = end_of(file, rows, i);
-        if end <= first {
-            return Row {
-                count: 0,
-                value: per,
-            };
-        }
-        return Row {
-            count: end - first,
-            value: per,
-        };
-    }
-    let past = (i as usize) * 8;
-    let count = word32(file, rows.at, past) as u64;
-    let value = word32(file, rows.at, past + 4);
-    Row {
-        count: count,
-        value: value,
-    }
-}
-
-// The size of sample i, counted from 0.
-fn size_at(file: &[u8], t: Sizes, i: u32) -> u32
-    ensures { λ r. ⌜ r ≡ sizeAt (now (file .entry)) t i ⌝ }
-{
-    if t.common == 0 {
-        return word32(file, t.at, (i as usize) * 4);
-    }
-    t.common
-}
-
-// Where chunk i lies, counted from 0.
-fn offset_at(file: &[u8], t: Chunks, i: u32) -> u64
-    ensures { λ r. ⌜ r ≡ offsetAt (now (file .entry)) t i ⌝ }
-{
-    if t.wide {
-        return word64(file, t.at, (i as usize) * 8);
-    }
-    word32(file, t.at, (i as usize) * 4) as u64
-}
-
 // The next value where the row is used up: rows that count 0 are passed over.
 fn run_refill(file: &[u8], rows: Rows, c: Runs) -> RunStep
     ensures { λ r. ⌜ toldRuns (rowsOf (now (file .entry)) rows) r ≡ runsLeft (rowsOf (now (file .entry)) rows) c ⌝ }
@@ -222,7 +61,7 @@ fn run_refill(file: &[u8], rows: Rows, c: Runs) -> RunStep
         if rows.count <= i {
             return RunStep::End;
         }
-        let e = entry(file, rows, i);
+        let e = tables::entry(file, rows, i);
         left = e.count;
         value = e.value;
         i += 1;
@@ -270,7 +109,7 @@ fn place_refill(file: &[u8], rows: Rows, t: Chunks, p: Place) -> PlaceStep
             return PlaceStep::End;
         };
         left = value;
-        at = offset_at(file, t, chunk);
+        at = tables::offset_at(file, t, chunk);
         chunk += 1;
         runs = rest;
     }
@@ -312,7 +151,7 @@ fn shift_next(file: &[u8], o: Optional, c: Runs) -> Shift
     let Optional::At(t) = o else {
         return Shift { value: 0, rest: c };
     };
-    let rows = pairs(t);
+    let rows = tables::pairs(t);
     match run_next(file, rows, c) {
         RunStep::End => Shift { value: 0, rest: c },
         RunStep::Value { value, rest } => Shift {
@@ -337,7 +176,7 @@ fn sync_at(file: &[u8], o: Optional, i: u32, number: u32) -> Sync
         return Sync { is: true, next: i };
     };
     if i < t.count {
-        let n = word32(file, t.at, (i as usize) * 4);
+        let n = words::four(file, t.at, (i as usize) * 4);
         if n == number {
             return Sync {
                 is: true,
@@ -346,27 +185,6 @@ fn sync_at(file: &[u8], o: Optional, i: u32, number: u32) -> Sync
         }
     }
     Sync { is: false, next: i }
-}
-
-// The signed number that 32 bits stand for.
-fn composition(x: u32) -> i64
-    ensures { λ r. ⌜ r ≡ signed 4 x ⌝ }
-{
-    if x < 2147483648 {
-        return x as i64;
-    }
-    (x as i64) - 4294967296
-}
-
-// A sample: numbers count from 1, a composition offset counts from the time.
-pub struct Sample {
-    pub number: u32,
-    pub offset: u64,
-    pub size: u32,
-    pub time: u64,
-    pub duration: u32,
-    pub composition: i64,
-    pub sync: bool,
 }
 
 // done: how many samples were given; time: the next one's.
@@ -448,7 +266,7 @@ fn give(
     let shift = shift_next(file, ctts, shifts);
     let stss = track.stss;
     let sync = sync_at(file, stss, lane.syncs, number);
-    let composition = composition(shift.value);
+    let composition = words::as_signed(shift.value);
     let further = shift.rest;
     let runs = p.groups;
     Taken::One {
@@ -487,16 +305,16 @@ pub fn next(file: &[u8], track: Track, lane: Lane) -> Taken
         return Taken::End;
     }
     let number = done + 1;
-    let size = size_at(file, sizes, done);
+    let size = tables::size_at(file, sizes, done);
     let stts = track.stts;
     let times = lane.times;
-    let RunStep::Value { value, rest } = run_next(file, pairs(stts), times) else {
+    let RunStep::Value { value, rest } = run_next(file, tables::pairs(stts), times) else {
         return Taken::End;
     };
     let chunks = track.stco;
     let stsc = track.stsc;
     let place = lane.place;
-    let PlaceStep::At(p) = place_next(file, groups(stsc, chunks.count), chunks, place) else {
+    let PlaceStep::At(p) = place_next(file, tables::groups(stsc, chunks.count), chunks, place) else {
         return Taken::End;
     };
     give(file, track, lane, number, size, value, rest, p)

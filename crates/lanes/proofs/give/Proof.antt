@@ -28,11 +28,11 @@ shift-next-requires c κs = search needs
 sync-at-requires : tie.Need-sync-at-requires
 sync-at-requires c κs = search needs
 
-composition-requires : tie.Need-composition-requires
-composition-requires c κs = search needs
+as-signed-requires : tie.Need-as-signed-requires
+as-signed-requires c κs = search needs
 
 returns-3 : tie.Need-returns-3
-returns-3 c = takes _ (c .before .before .before .before .before .before .before .before .before .before .before .args .track) (c .before .before .before .before .before .before .before .before .before .before .before .args .lane) _ _ _ (c .before .before .before .before .before .before .before .before .before .before .before .args .times) (c .before .before .before .before .before .before .before .before .before .before .before .args .p) _ _ _ _ _ (omega arith) (c .before .before .before .before .before .before .before .if2 .left) (c .before .before .before .before .shift-next .ensures .0) (c .before .before .before .before .shift-next .ensures .1) (c .before .before .before .sync-at .ensures .0) (c .before .before .before .sync-at .ensures .1) (toZ-ofZ {w = w64} {z = c .before .before .composition .result} (record { sfits = c .before .before .composition .ok }) ∙ c .before .before .composition .ensures)
+returns-3 c = takes _ (c .before .before .before .before .before .before .before .before .before .before .before .args .track) (c .before .before .before .before .before .before .before .before .before .before .before .args .lane) _ _ _ (c .before .before .before .before .before .before .before .before .before .before .before .args .times) (c .before .before .before .before .before .before .before .before .before .before .before .args .p) _ _ _ _ _ (omega arith) (c .before .before .before .before .before .before .before .if2 .left) (c .before .before .before .before .shift-next .ensures .0) (c .before .before .before .before .shift-next .ensures .1) (c .before .before .before .sync-at .ensures .0) (c .before .before .before .sync-at .ensures .1) (toZ-ofZ {w = w64} {z = c .before .before .as-signed .result} (record { sfits = c .before .before .as-signed .ok }) ∙ c .before .before .as-signed .ensures)
 
 pub give-spec : {M : Type 1} → statement M
 give-spec =
@@ -45,5 +45,5 @@ give-spec =
     add-later
     shift-next-requires
     sync-at-requires
-    composition-requires
+    as-signed-requires
     returns-3)

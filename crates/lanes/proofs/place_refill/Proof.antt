@@ -3,9 +3,10 @@ use mathlib.Core.Path.{_≡_, refl, sym, ap, _∙_}
 use mathlib.Core.List.{List, _∷_}
 use native.Mathlib.Omega.{arith}
 use borrow.Author.Needs.{needs}
-use Rattle.lanes.specs.Tables.{chunks}
+use Rattle.tables.specs.Tables.{chunks}
 use Rattle.lanes.specs.Lane.{placesAt}
-use Rattle.lanes.specs.Rows.{rowsOf, toldRuns}
+use Rattle.tables.specs.Rows.{rowsOf}
+use Rattle.lanes.specs.Steps.{toldRuns}
 use Rattle.lanes.proofs.Cases.{place-past, place-end, place-next, place-one}
 use Rattle.lanes.proofs.place_refill.Statement.{statement}
 use Rattle.lanes.proofs.place_refill.Tie as tie

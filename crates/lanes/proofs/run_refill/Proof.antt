@@ -3,7 +3,7 @@ use mathlib.Core.Path.{_≡_, refl, _∙_}
 use native.Mathlib.Omega.{arith}
 use borrow.Author.Needs.{needs}
 use Rattle.lanes.specs.Lane.{runsAt}
-use Rattle.lanes.specs.Rows.{rowsOf}
+use Rattle.tables.specs.Rows.{rowsOf}
 use Rattle.lanes.proofs.Cases.{run-done, run-next, run-one}
 use Rattle.lanes.proofs.run_refill.Statement.{statement}
 use Rattle.lanes.proofs.run_refill.Tie as tie

@@ -12,20 +12,20 @@ enum-told c = search needs
 returns : tie.Need-returns
 returns c = sync-all _ _ _ _ (c .enum-told .given .1)
 
-mul-word32 : tie.Need-mul-word32
-mul-word32 c = search needs
+mul-four : tie.Need-mul-four
+mul-four c = search needs
 
-word32-requires : tie.Need-word32-requires
-word32-requires c κs = search needs
+four-requires : tie.Need-four-requires
+four-requires c κs = search needs
 
 add-t11 : tie.Need-add-t11
 add-t11 c = search needs
 
 returns-2 : tie.Need-returns-2
-returns-2 c = sync-hit _ _ _ _ _ (c .before .before .before .before .before .o .given .1) _ (c .before .before .if1 .taken) (c .before .word32 .ensures) (c .if2 .taken)
+returns-2 c = sync-hit _ _ _ _ _ (c .before .before .before .before .before .o .given .1) _ (c .before .before .if1 .taken) (c .before .four .ensures) (c .if2 .taken)
 
 returns-3 : tie.Need-returns-3
-returns-3 c = sync-miss _ _ _ _ _ (c .before .before .before .before .before .o .given .1) _ (c .before .before .if1 .taken) (c .before .word32 .ensures) (c .if2 .left)
+returns-3 c = sync-miss _ _ _ _ _ (c .before .before .before .before .before .o .given .1) _ (c .before .before .if1 .taken) (c .before .four .ensures) (c .if2 .left)
 
 returns-4 : tie.Need-returns-4
 returns-4 c = sync-past _ _ _ _ _ (c .before .before .before .o .given .1) (c .if1 .left)
@@ -37,8 +37,8 @@ sync-at-spec =
     enum-known-o
     enum-told
     returns
-    mul-word32
-    word32-requires
+    mul-four
+    four-requires
     add-t11
     returns-2
     returns-3

@@ -1,49 +1,23 @@
--- What the private functions of the lane promise: rows by their number, and what one step of a cursor tells. No public
--- promise rests on it. Assumes nothing.
-use Prim.Native.Nat.{ℕ, _+_, _-_, _*_}
+-- What the private functions of the lane promise: what one step of a cursor tells. No public promise rests on it.
+-- Assumes nothing.
+use Prim.Native.Nat.{ℕ, _+_}
 use mathlib.Core.Path.{_≡_}
 use mathlib.Core.List.{List, [], _∷_}
-use mathlib.Core.Bool.{Bool, true, false}
 use lib.ListN.{drop}
-use lib.Dec.{ltb}
-use Rattle.numbers.specs.Field.{when, orZero}
 use Rattle.signed.specs.Signed.{signed}
-use Rattle.lanes.specs.Tables.{listed, pairAt, pairs, groups, chunks, sizes}
-use Rattle.lanes.specs.Samples.{firstOr, rest, flagOf, pastOf, zipped}
+use Rattle.tables.specs.Tables.{pairs, groups, chunks, sizes}
+use Rattle.tables.specs.Samples.{firstOr, rest, flagOf, pastOf, zipped}
+use Rattle.tables.specs.declared.Row.{Row}
+use Rattle.tables.specs.declared.Track.{Track}
+use Rattle.samples.specs.declared.Sample.{Sample}
 use Rattle.lanes.specs.Lane.{runsLeft, placesAt, placesLeft, shiftsLeft, syncsLeft}
-use Rattle.lanes.specs.declared.Table.{Table}
-use Rattle.lanes.specs.declared.Rows.{Rows}
-use Rattle.lanes.specs.declared.Row.{Row}
 use Rattle.lanes.specs.declared.Runs.{Runs}
 use Rattle.lanes.specs.declared.Place.{Place}
-use Rattle.lanes.specs.declared.Track.{Track}
-use Rattle.lanes.specs.declared.Sample.{Sample}
 use Rattle.lanes.specs.declared.Lane.{Lane}
 use Rattle.lanes.specs.declared.RunStep.{RunStep}
 use Rattle.lanes.specs.declared.RunStep.the-variants as run
 use Rattle.lanes.specs.declared.PlaceStep.{PlaceStep}
 use Rattle.lanes.specs.declared.PlaceStep.the-variants as place
-
-abbrev pub pairRows : Table → Rows
-pairRows t = record { at = t .at; count = t .count; grouped = false; chunks = 0 }
-
-abbrev pub groupRows : Table → ℕ → Rows
-groupRows t n = record { at = t .at; count = t .count; grouped = true; chunks = n }
-
--- the chunk after the last one of stsc's entry i
-unfoldable pub endAt : List ℕ → Rows → ℕ → ℕ
-endAt f t i = when (ltb (i + 1) (t .count)) (orZero 4 f (t .at + (i * 12 + 12))) (t .chunks + 1)
-
--- row i: an entry of stts or ctts; or one of stsc, as a run of chunks
-unfoldable pub rowBy : Bool → List ℕ → Rows → ℕ → Row
-rowBy false f t i = pairAt f (t .at) i
-rowBy true f t i = record { count = endAt f t i - orZero 4 f (t .at + i * 12); value = orZero 4 f (t .at + (i * 12 + 4)) }
-
-abbrev pub rowAt : List ℕ → Rows → ℕ → Row
-rowAt f t i = rowBy (t .grouped) f t i
-
-abbrev pub rowsOf : List ℕ → Rows → List Row
-rowsOf f t = listed (rowAt f t) (t .count)
 
 -- the value, and then those that the cursor has left
 abbrev pub toldRuns : List Row → RunStep → List ℕ

@@ -6,12 +6,12 @@ use mathlib.Core.List.{List, [], _∷_, _++_}
 use lib.ListN.{replicate}
 use lib.Dec.{eqb}
 use Rattle.numbers.specs.Field.{when, orZero}
-use Rattle.lanes.specs.declared.Table.{Table}
-use Rattle.lanes.specs.declared.Optional.{Optional}
-use Rattle.lanes.specs.declared.Optional.the-variants.{Absent, At}
-use Rattle.lanes.specs.declared.Sizes.{Sizes}
-use Rattle.lanes.specs.declared.Chunks.{Chunks}
-use Rattle.lanes.specs.declared.Row.{Row}
+use Rattle.tables.specs.declared.Table.{Table}
+use Rattle.tables.specs.declared.Optional.{Optional}
+use Rattle.tables.specs.declared.Optional.the-variants.{Absent, At}
+use Rattle.tables.specs.declared.Sizes.{Sizes}
+use Rattle.tables.specs.declared.Chunks.{Chunks}
+use Rattle.tables.specs.declared.Row.{Row}
 
 -- n things by their number, from number i on
 abbrev pub listFrom : {A : Type 0} → (ℕ → A) → ℕ → ℕ → List A

@@ -8,12 +8,12 @@ use native.Mathlib.Omega.{arith}
 use lib.Dec.{eqb}
 use borrow.Author.Tests.{eqb-true, eqb-false, ne-eqb}
 use Rattle.numbers.specs.Field.{when}
-use Rattle.lanes.specs.Tables.{valuesOf, pairs, groups, chunks, sizes, shifts, every, those, numbers}
-use Rattle.lanes.specs.Samples.{place, rest, flagOf, zipped, samplesOf}
-use Rattle.lanes.specs.declared.Sample.{Sample}
-use Rattle.lanes.specs.declared.Table.{Table}
-use Rattle.lanes.specs.declared.Track.{Track}
-use Rattle.lanes.specs.declared.Optional.the-variants.{Absent, At}
+use Rattle.tables.specs.Tables.{valuesOf, pairs, groups, chunks, sizes, shifts, every, those, numbers}
+use Rattle.tables.specs.Samples.{place, rest, flagOf, zipped, samplesOf}
+use Rattle.samples.specs.declared.Sample.{Sample}
+use Rattle.tables.specs.declared.Table.{Table}
+use Rattle.tables.specs.declared.Track.{Track}
+use Rattle.tables.specs.declared.Optional.the-variants.{Absent, At}
 
 -- it holds of every sample
 abbrev pub All : (Sample → Type 0) → List Sample → Type 0

@@ -1,9 +1,9 @@
 use native.Mathlib.Omega.{arith}
 use Rattle.numbers.proofs.Chain.{by32}
-use Rattle.lanes.proofs.Words.{word-is, word-not}
+use Rattle.words.proofs.Words.{word-is, word-not}
 use borrow.Author.Needs.{needs}
-use Rattle.lanes.proofs.word32.Statement.{statement}
-use Rattle.lanes.proofs.word32.Tie as tie
+use Rattle.words.proofs.four.Statement.{statement}
+use Rattle.words.proofs.four.Tie as tie
 
 spot-requires : tie.Need-spot-requires
 spot-requires c κs = search needs
@@ -23,6 +23,6 @@ returns c = word-is by32 4 _ _ _ _ _ (omega arith) (c .before .before .before .b
 returns-2 : tie.Need-returns-2
 returns-2 c = word-not by32 4 _ _ _ _ _ (omega arith) (c .before .before .before .spot .ensures) (c .before .before .u32-at .ensures) _ (c .enum-told .given .1)
 
-pub word32-spec : {M : Type 1} → statement M
-word32-spec =
+pub four-spec : {M : Type 1} → statement M
+four-spec =
     tie.close (tie.spec spot-requires u32-at-requires enum-known-n enum-told returns returns-2)

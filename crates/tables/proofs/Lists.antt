@@ -8,10 +8,10 @@ use native.Mathlib.Nat.{add-zero, zero-add}
 use lib.ListN.{length, drop}
 use borrow.Author.Tests.{lt-ltb, le-ltb}
 use Rattle.numbers.specs.Field.{when}
-use Rattle.lanes.specs.Tables.{listFrom, listed, pairAt, pairs, groupAt, groups, chunkRuns}
-use Rattle.lanes.specs.Rows.{pairRows, groupRows, endAt, rowBy, rowAt, rowsOf}
-use Rattle.lanes.specs.declared.Table.{Table}
-use Rattle.lanes.specs.declared.Row.{Row}
+use Rattle.tables.specs.Tables.{listFrom, listed, pairAt, pairs, groupAt, groups, chunkRuns}
+use Rattle.tables.specs.Rows.{pairRows, groupRows, endAt, rowBy, rowAt, rowsOf}
+use Rattle.tables.specs.declared.Table.{Table}
+use Rattle.tables.specs.declared.Row.{Row}
 
 module _ {A : Type 0} (g : ℕ → A) where
   from-cons : (i n k : ℕ) → i < n → drop i (listFrom g n k) ≡ g (k + i) ∷ drop (suc i) (listFrom g n k)

@@ -7,9 +7,9 @@ use lib.ListN.{take, drop}
 use lib.Dec.{eqb}
 use Rattle.numbers.specs.Field.{when}
 use Rattle.signed.specs.Signed.{signed}
-use Rattle.lanes.specs.Tables.{valuesOf, pairs, groups, chunks, sizes, shifts, Syncs, every, those, syncs}
-use Rattle.lanes.specs.declared.Track.{Track}
-use Rattle.lanes.specs.declared.Sample.{Sample}
+use Rattle.tables.specs.Tables.{valuesOf, pairs, groups, chunks, sizes, shifts, Syncs, every, those, syncs}
+use Rattle.tables.specs.declared.Track.{Track}
+use Rattle.samples.specs.declared.Sample.{Sample}
 
 -- where each begins, if the first begins at `at` and each comes behind the one before
 abbrev pub starts : ℕ → List ℕ → List ℕ

@@ -1,7 +1,7 @@
-use Rattle.lanes.proofs.Words.{signed-low, signed-fits, signed-high}
+use Rattle.words.proofs.Words.{signed-low, signed-fits, signed-high}
 use borrow.Author.Needs.{needs}
-use Rattle.lanes.proofs.composition.Statement.{statement}
-use Rattle.lanes.proofs.composition.Tie as tie
+use Rattle.words.proofs.as_signed.Statement.{statement}
+use Rattle.words.proofs.as_signed.Tie as tie
 
 cast-result : tie.Need-cast-result
 cast-result c = search needs
@@ -18,5 +18,5 @@ sub-result c = signed-fits _ (c .if1 .left) (c .before .fits .x .fits)
 returns-2 : tie.Need-returns-2
 returns-2 c = signed-high _ (c .if1 .left) (c .before .fits .x .fits)
 
-pub composition-spec : {M : Type 1} → statement M
-composition-spec = tie.close (tie.spec cast-result returns cast-result-2 sub-result returns-2)
+pub as-signed-spec : {M : Type 1} → statement M
+as-signed-spec = tie.close (tie.spec cast-result returns cast-result-2 sub-result returns-2)

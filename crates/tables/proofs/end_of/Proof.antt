@@ -1,7 +1,7 @@
-use Rattle.lanes.proofs.Cases.{end-next, end-last}
+use Rattle.tables.proofs.Cases.{end-next, end-last}
 use borrow.Author.Needs.{needs}
-use Rattle.lanes.proofs.end_of.Statement.{statement}
-use Rattle.lanes.proofs.end_of.Tie as tie
+use Rattle.tables.proofs.end_of.Statement.{statement}
+use Rattle.tables.proofs.end_of.Tie as tie
 
 add-if1 : tie.Need-add-if1
 add-if1 c = search needs
@@ -9,20 +9,20 @@ add-if1 c = search needs
 cast-if1 : tie.Need-cast-if1
 cast-if1 c = search needs
 
-mul-word32 : tie.Need-mul-word32
-mul-word32 c = search needs
+mul-four : tie.Need-mul-four
+mul-four c = search needs
 
-add-word32 : tie.Need-add-word32
-add-word32 c = search needs
+add-four : tie.Need-add-four
+add-four c = search needs
 
-word32-requires : tie.Need-word32-requires
-word32-requires c κs = search needs
+four-requires : tie.Need-four-requires
+four-requires c κs = search needs
 
 cast-result : tie.Need-cast-result
 cast-result c = search needs
 
 returns : tie.Need-returns
-returns c = end-next _ _ _ _ (c .before .if1 .taken) (c .word32 .ensures)
+returns c = end-next _ _ _ _ (c .before .if1 .taken) (c .four .ensures)
 
 cast-result-2 : tie.Need-cast-result-2
 cast-result-2 c = search needs
@@ -39,9 +39,9 @@ end-of-spec =
     (tie.spec
     add-if1
     cast-if1
-    mul-word32
-    add-word32
-    word32-requires
+    mul-four
+    add-four
+    four-requires
     cast-result
     returns
     cast-result-2

@@ -1,0 +1,5 @@
+pub mod Lists
+pub mod Cases
+pub mod Lengths
+pub mod Flags
+pub mod Vectors
