@@ -1,11 +1,14 @@
-use native.Mathlib.Omega.{arith}
-use mathlib.Core.Path.{_∙_}
+use Rattle.lanes.proofs.Heads.{over-end, over-time, takes}
 use mir.Facts.{toZ-ofZ}
 use mir.Syntax.{w64}
-use Rattle.lanes.proofs.Heads.{over-end, over-time, takes}
+use mathlib.Core.Path.{_∙_}
+use native.Mathlib.Omega.{arith}
 use borrow.Author.Needs.{needs}
 use Rattle.lanes.proofs.give.Statement.{statement}
 use Rattle.lanes.proofs.give.Tie as tie
+use Rattle.lanes.proofs.shift_next.Reads as shift-next-reads
+use Rattle.lanes.proofs.sync_at.Reads as sync-at-reads
+use Rattle.words.proofs.as_signed.Reads as as-signed-reads
 
 sub-if1 : tie.Need-sub-if1
 sub-if1 c = search needs
@@ -31,8 +34,11 @@ sync-at-requires c κs = search needs
 as-signed-requires : tie.Need-as-signed-requires
 as-signed-requires c κs = search needs
 
+sub-t27 : tie.Need-sub-t27
+sub-t27 c = search needs
+
 returns-3 : tie.Need-returns-3
-returns-3 c = takes _ (c .before .before .before .before .before .before .before .before .before .before .before .args .track) (c .before .before .before .before .before .before .before .before .before .before .before .args .lane) _ _ _ (c .before .before .before .before .before .before .before .before .before .before .before .args .times) (c .before .before .before .before .before .before .before .before .before .before .before .args .p) _ _ _ _ _ (omega arith) (c .before .before .before .before .before .before .before .if2 .left) (c .before .before .before .before .shift-next .ensures .0) (c .before .before .before .before .shift-next .ensures .1) (c .before .before .before .sync-at .ensures .0) (c .before .before .before .sync-at .ensures .1) (toZ-ofZ {w = w64} {z = c .before .before .as-signed .result} (record { sfits = c .before .before .as-signed .ok }) ∙ c .before .before .as-signed .ensures)
+returns-3 c = takes _ (c .before .before .before .before .before .before .before .before .before .before .before .before .before .before .args .track) (c .before .before .before .before .before .before .before .before .before .before .before .before .before .before .args .lane) _ _ _ (c .before .before .before .before .before .before .before .before .before .before .before .before .before .before .args .times) (c .before .before .before .before .before .before .before .before .before .before .before .before .before .before .args .p) _ _ _ _ _ (omega arith) (c .before .before .before .before .before .before .before .before .before .before .if2 .left) (c .before .before .before .before .before .before .before .shift-next .ensures .0) (c .before .before .before .before .before .before .before .shift-next .ensures .1) (c .before .before .before .before .before .sync-at .ensures .0) (c .before .before .before .before .before .sync-at .ensures .1) (toZ-ofZ {w = w64} {z = c .before .before .before .as-signed .result} (record { sfits = c .before .before .before .as-signed .ok }) ∙ c .before .before .before .as-signed .ensures)
 
 pub give-spec : {M : Type 1} → statement M
 give-spec =
@@ -46,4 +52,5 @@ give-spec =
     shift-next-requires
     sync-at-requires
     as-signed-requires
+    sub-t27
     returns-3)
