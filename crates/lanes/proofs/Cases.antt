@@ -6,9 +6,9 @@ use mathlib.Core.Bool.{Bool, true, false}
 use native.Mathlib.Omega.{arith}
 use lib.ListN.{take, drop, replicate}
 use lib.Dec.{eqb}
-use borrow.Author.Tests.{eq-eqb, ne-eqb}
+use borrow.Author.Tests.{ne-eqb}
 use Rattle.numbers.specs.Field.{when, orZero}
-use Rattle.tables.specs.Tables.{valuesOf, pairs, offsetAt, chunks, Syncs, those, numberAt, numbers}
+use Rattle.tables.specs.Tables.{valuesOf, pairs, offsetAt, chunks, those, numberAt, numbers}
 use Rattle.tables.specs.Samples.{starts, place, firstOr, rest, flagOf, pastOf}
 use Rattle.tables.specs.Rows.{rowAt, rowsOf}
 use Rattle.tables.specs.declared.Table.{Table}
@@ -19,7 +19,7 @@ use Rattle.tables.specs.declared.Rows.{Rows}
 use Rattle.tables.specs.declared.Row.{Row}
 use Rattle.tables.proofs.Lists.{list-cons, list-nil, rows-pairs}
 use Rattle.lanes.specs.Lane.{runsAt, runsLeft, placesAt, placesLeft, shiftsLeft, marked, marksLeft, syncsLeft}
-use Rattle.lanes.specs.Steps.{rowsAt, Ready, afterOf, PlaceReady, shiftBy, shiftOf, MarkReady}
+use Rattle.lanes.specs.Steps.{rowsAt, Ready, afterOf, PlaceReady, shiftBy, shiftOf, MarkReady, syncOf, unmarked}
 use Rattle.lanes.specs.declared.Runs.{Runs}
 use Rattle.lanes.specs.declared.Place.{Place}
 use Rattle.lanes.specs.declared.Shift.{Shift}
@@ -165,70 +165,65 @@ marked-some : (n : ℕ) (ns : List ℕ) → (n ≡ 0 → ⊥) → marked n ns �
 marked-some zero ns h = absurd (h refl)
 marked-some (suc n) ns h = refl
 
-module _ (f : List ℕ) (t : Table) (m : Marks) where
-  pub mark-there : (m .number ≡ 0 → ⊥) → MarkReady (numbers f t) m
-  mark-there h e = absurd (h e)
+module _ (f : List ℕ) (o : Optional) (m : Marks) where
+  pub mark-there : (m .number ≡ 0 → ⊥) → MarkReady f o m
+  mark-there h = by o
+    where
+      by : (x : Optional) → MarkReady f x m
+      by Absent = tt
+      by (At t) = λ e. absurd (h e)
 
-  module _ (e : m .number ≡ 0) where
+  pub mark-all : o ≡ Absent → MarkReady f o m
+  mark-all e = rw e tt
+
+  module _ (t : Table) (eo : o ≡ At t) (e : m .number ≡ 0) where
     unread : marksLeft (numbers f t) m ≡ drop (m .next) (numbers f t)
     unfolding marksLeft
     unread = ap (λ (k : ℕ). marked k (drop (m .next) (numbers f t))) e
 
-    pub mark-past : t .count ≤ m .next → MarkReady (numbers f t) m
-    mark-past h z n k = ap (λ (l : List ℕ). flagOf (those l) n) (unread ∙ list-nil (numberAt f (t .at)) (t .count) (m .next) h)
+    -- no sample's number comes first
+    none-first : (l : List ℕ) → marksLeft (numbers f t) m ≡ l → ((n : ℕ) → 0 < n → flagOf (those l) n ≡ false) → MarkReady f o m
+    unfolding syncsLeft
+    none-first l q h = rw eo (λ z n k. ap (λ (x : List ℕ). flagOf (those x) n) q ∙ h n k)
+
+    pub mark-past : t .count ≤ m .next → MarkReady f o m
+    mark-past h = none-first [] (unread ∙ list-nil (numberAt f (t .at)) (t .count) (m .next) h) (λ n k. refl)
 
     module _ (h : m .next < t .count) (x : ℕ) (w : x ≡ orZero 4 f (t .at + m .next * 4)) where
       cons : marksLeft (numbers f t) m ≡ x ∷ drop (m .next + 1) (numbers f t)
       unfolding numberAt
       cons = unread ∙ list-cons (numberAt f (t .at)) (t .count) (m .next) h ∙ ap (λ (a : ℕ). a ∷ drop (m .next + 1) (numbers f t)) (sym w)
 
-      pub mark-zero : x ≡ 0 → MarkReady (numbers f t) m
-      mark-zero q z n k = ap (λ (l : List ℕ). flagOf (those l) n) cons ∙ ne-eqb x n (λ v. omega (arith, v, q, k))
+      pub mark-zero : x ≡ 0 → MarkReady f o m
+      mark-zero q = none-first (x ∷ drop (m .next + 1) (numbers f t)) cons (λ n k. ne-eqb x n (λ v. omega (arith, v, q, k)))
 
-      pub mark-read : (x ≡ 0 → ⊥) → marksLeft (numbers f t) (record { next = m .next + 1; number = x }) ≡ marksLeft (numbers f t) m
-      unfolding marksLeft
-      mark-read q = marked-some x (drop (m .next + 1) (numbers f t)) q ∙ sym cons
+      pub mark-read : (x ≡ 0 → ⊥) → syncsLeft f o (record { next = m .next + 1; number = x }) ≡ syncsLeft f o m
+      unfolding syncsLeft marksLeft
+      mark-read q = rw eo (ap those (marked-some x (drop (m .next + 1) (numbers f t)) q ∙ sym cons))
 
-module _ (f : List ℕ) (o : Optional) (m : Marks) (n : ℕ) where
-  pub sync-all : o ≡ Absent → (true ≡ flagOf (syncsLeft f o m) n) × (syncsLeft f o m ≡ pastOf (syncsLeft f o m) n)
+-- what a cursor that is ready says of the sample of the next number
+module _ (f : List ℕ) (m : Marks) (n : ℕ) (k : 0 < n) where
+  stays : (l : List ℕ) → flagOf (those l) n ≡ false → pastOf (those l) n ≡ those l
+  unfolding when
+  stays [] h = refl
+  stays (x ∷ l) h = ap (λ (a : Bool). those (when a l (x ∷ l))) h
+
+  abbrev Tells : Optional → Type 0
+  Tells o = (syncOf o m n ≡ flagOf (syncsLeft f o m) n) × (syncsLeft f o (unmarked m n) ≡ pastOf (syncsLeft f o m) n)
+
+  by-number : (t : Table) (j : ℕ) (b : Bool) → m .number ≡ j → eqb j n ≡ b → MarkReady f (At t) m → Tells (At t)
+  unfolding syncsLeft marksLeft when
+  by-number t zero b e q h =
+      let d : eqb (m .number) n ≡ false = ne-eqb (m .number) n (λ v. omega (arith, v, e, k)) in
+      let g : flagOf (syncsLeft f (At t) m) n ≡ false = h e n k in
+      (d ∙ sym g, ap (λ (a : Bool). syncsLeft f (At t) (record { next = m .next; number = when a 0 (m .number) })) d ∙ sym (stays (marksLeft (numbers f t) m) g))
+  by-number t (suc j) b e q h = rw (e, q) (refl, by-test b)
+    where
+      by-test : (a : Bool) → those (marked (when a 0 (suc j)) (drop (m .next) (numbers f t))) ≡ those (when a (drop (m .next) (numbers f t)) (suc j ∷ drop (m .next) (numbers f t)))
+      by-test true = refl
+      by-test false = refl
+
+  pub mark-tells : (o : Optional) → MarkReady f o m → Tells o
   unfolding syncsLeft
-  sync-all e = (rw e, rw e)
-
-  module _ (t : Table) (e : o ≡ At t) (r : Marks) (q : marksLeft (numbers f t) r ≡ marksLeft (numbers f t) m) where
-    here : syncsLeft f o m ≡ those (marksLeft (numbers f t) r)
-    unfolding syncsLeft
-    here = ap (λ (a : Optional). syncsLeft f a m) e ∙ ap those (sym q)
-
-    same : syncsLeft f o r ≡ those (marksLeft (numbers f t) r)
-    unfolding syncsLeft
-    same = ap (λ (a : Optional). syncsLeft f a r) e
-
-    pub sync-hit : r .number ≡ n → 0 < n → (true ≡ flagOf (syncsLeft f o m) n) × (syncsLeft f o (record { next = r .next; number = 0 }) ≡ pastOf (syncsLeft f o m) n)
-    unfolding syncsLeft marksLeft when
-    sync-hit w k =
-        let d : r .number ≡ 0 → ⊥ = λ v. omega (arith, v, w, k) in
-        let h : syncsLeft f o m ≡ those (r .number ∷ drop (r .next) (numbers f t)) = here ∙ ap those (marked-some (r .number) (drop (r .next) (numbers f t)) d) in
-        let b : eqb (r .number) n ≡ true = eq-eqb (r .number) n w in (
-          sym (ap (λ (y : Syncs). flagOf y n) h ∙ b),
-          ap (λ (a : Optional). syncsLeft f a (record { next = r .next; number = 0 })) e
-              ∙ sym (ap (λ (y : Syncs). pastOf y n) h ∙ ap (λ (a : Bool). those (when a (drop (r .next) (numbers f t)) (r .number ∷ drop (r .next) (numbers f t)))) b),
-        )
-
-    stays : (l : List ℕ) → flagOf (those l) n ≡ false → pastOf (those l) n ≡ those l
-    unfolding when
-    stays [] h = refl
-    stays (x ∷ l) h = ap (λ (a : Bool). those (when a l (x ∷ l))) h
-
-    miss : flagOf (those (marksLeft (numbers f t) r)) n ≡ false → (false ≡ flagOf (syncsLeft f o m) n) × (syncsLeft f o r ≡ pastOf (syncsLeft f o m) n)
-    miss h = (
-      sym (ap (λ (y : Syncs). flagOf y n) here ∙ h),
-      same ∙ sym (ap (λ (y : Syncs). pastOf y n) here ∙ stays (marksLeft (numbers f t) r) h),
-    )
-
-    other : (k : ℕ) → r .number ≡ k → (k ≡ n → ⊥) → 0 < n → MarkReady (numbers f t) r → flagOf (those (marksLeft (numbers f t) r)) n ≡ false
-    unfolding marksLeft
-    other zero w d k h = h w n k
-    other (suc j) w d k h = rw w (ne-eqb (suc j) n d)
-
-    pub sync-miss : (r .number ≡ n → ⊥) → 0 < n → MarkReady (numbers f t) r → (false ≡ flagOf (syncsLeft f o m) n) × (syncsLeft f o r ≡ pastOf (syncsLeft f o m) n)
-    sync-miss d k h = miss (other (r .number) refl d k h)
+  mark-tells Absent h = (refl, refl)
+  mark-tells (At t) h = by-number t (m .number) (eqb (m .number) n) refl refl h

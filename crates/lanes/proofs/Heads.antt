@@ -5,15 +5,16 @@ use mathlib.Core.List.{List, [], _∷_}
 use mathlib.Core.Bool.{Bool, true, false, _&&_}
 use lib.ListN.{drop}
 use lib.IntN.{ℤ}
+use lib.Dec.{eqb}
 use borrow.Author.Tests.{lt-ltb, le-ltb}
 use Rattle.numbers.specs.Field.{when}
 use Rattle.signed.specs.Signed.{signed}
-use Rattle.tables.specs.Tables.{pairs, groups, chunks, sizes, sizeAt}
+use Rattle.tables.specs.Tables.{pairs, groups, chunks, sizes, sizeAt, Syncs}
 use Rattle.tables.specs.Samples.{firstOr, rest, flagOf, pastOf, zipped}
 use Rattle.samples.specs.Lists.{none, over, view}
 use Rattle.lanes.specs.Lane.{runsLeft, placesAt, placesLeft, shiftsLeft, syncsLeft, sizesLeft, left, shows}
 use Rattle.tables.specs.Rows.{pairRows, groupRows, rowsOf}
-use Rattle.lanes.specs.Steps.{Ready, afterOf, SamePlaces, PlaceReady, samplesFrom}
+use Rattle.lanes.specs.Steps.{Ready, afterOf, SamePlaces, PlaceReady, MarkReady, syncOf, samplesFrom}
 use Rattle.tables.specs.declared.Rows.{Rows}
 use Rattle.tables.specs.declared.Row.{Row}
 use Rattle.lanes.specs.declared.Runs.{Runs}
@@ -23,7 +24,7 @@ use Rattle.tables.specs.declared.Track.{Track}
 use Rattle.lanes.specs.declared.Lane.{Lane}
 use Rattle.lanes.specs.declared.Taken.{Taken}
 use Rattle.lanes.specs.declared.Taken.the-variants as taken
-use Rattle.lanes.proofs.Cases.{run-one, place-one}
+use Rattle.lanes.proofs.Cases.{run-one, place-one, mark-tells}
 use Rattle.tables.proofs.Lists.{list-cons, list-nil, rows-pairs, rows-groups}
 
 and-false : (x : Bool) → (x && false) ≡ false
@@ -113,13 +114,25 @@ module _ (f : List ℕ) (t : Track) (l : Lane) (n z d : ℕ) (c : Runs) (p : Pla
   unfolding samplesFrom when
   over-time k = rw (le-ltb (l .time) (2 ^ 63) k, and-false)
 
-  pub takes : (v : ℕ) (rs : Runs) (b : Bool) (i : Marks) (co : ℤ) → p .at + z < 2 ^ 64 → l .time < 2 ^ 63
+  pub takes : (v : ℕ) (rs : Runs) (m : Marks) (b : Bool) (i : ℕ) (co : ℤ) → p .at + z < 2 ^ 64 → l .time < 2 ^ 63 → 0 < n
       → v ≡ firstOr 0 (shiftsLeft f (t .ctts) (l .shifts)) → shiftsLeft f (t .ctts) rs ≡ rest (shiftsLeft f (t .ctts) (l .shifts))
-      → b ≡ flagOf (syncsLeft f (t .stss) (l .syncs)) n → syncsLeft f (t .stss) i ≡ pastOf (syncsLeft f (t .stss) (l .syncs)) n
+      → syncsLeft f (t .stss) m ≡ syncsLeft f (t .stss) (l .syncs) → MarkReady f (t .stss) m
+      → b ≡ syncOf (t .stss) m n → i ≡ when (eqb (m .number) n) 0 (m .number)
       → co ≡ signed 4 v
       → shows f t (taken.One
       (record { number = n; offset = p .at; size = z; time = l .time; duration = d; composition = co; sync = b })
-      (record { done = n; time = l .time + d; times = c; shifts = rs; syncs = i; place = record { left = p .left - 1; at = p .at + z; chunk = p .chunk; groups = p .groups } }))
+      (record {
+        done = n;
+        time = l .time + d;
+        times = c;
+        shifts = rs;
+        syncs = record { next = m .next; number = i };
+        place = record { left = p .left - 1; at = p .at + z; chunk = p .chunk; groups = p .groups };
+      }))
       ≡ view (samplesFrom f t l n z d c p)
   unfolding left samplesFrom when
-  takes v rs b i co k m ev er eb en ec = rw (ec, ev, er, eb, en, lt-ltb (p .at + z) (2 ^ 64) k, lt-ltb (l .time) (2 ^ 63) m)
+  takes v rs m b i co k e y ev er em h eb ei ec =
+      let w = mark-tells f m n y (t .stss) h in
+      let sb : b ≡ flagOf (syncsLeft f (t .stss) (l .syncs)) n = eb ∙ w .0 ∙ ap (λ (s : Syncs). flagOf s n) em in
+      let sp : syncsLeft f (t .stss) (record { next = m .next; number = i }) ≡ pastOf (syncsLeft f (t .stss) (l .syncs)) n = ap (λ (j : ℕ). syncsLeft f (t .stss) (record { next = m .next; number = j })) ei ∙ w .1 ∙ ap (λ (s : Syncs). pastOf s n) em in
+      rw (ec, ev, er, sb, sp, lt-ltb (p .at + z) (2 ^ 64) k, lt-ltb (l .time) (2 ^ 63) e)

@@ -3,16 +3,20 @@
 use Prim.Native.Nat.{ℕ, zero, suc, _+_, _-_, _<_}
 use mathlib.Core.Path.{_≡_}
 use mathlib.Core.List.{List, [], _∷_}
-use mathlib.Core.Bool.{Bool, false}
+use mathlib.Core.Bool.{Bool, true, false}
 use lib.ListN.{drop}
+use lib.Dec.{eqb}
+use Rattle.numbers.specs.Field.{when}
 use Rattle.signed.specs.Signed.{signed}
-use Rattle.tables.specs.Tables.{pairs, groups, chunks, sizes, those}
+use Rattle.tables.specs.Tables.{pairs, groups, chunks, sizes}
 use Rattle.tables.specs.Samples.{firstOr, rest, flagOf, pastOf, zipped}
+use Rattle.tables.specs.declared.Optional.{Optional}
+use Rattle.tables.specs.declared.Optional.the-variants.{Absent, At}
 use Rattle.tables.specs.declared.Row.{Row}
 use Rattle.tables.specs.declared.Rows.{Rows}
 use Rattle.tables.specs.declared.Track.{Track}
 use Rattle.samples.specs.declared.Sample.{Sample}
-use Rattle.lanes.specs.Lane.{runsLeft, placesAt, placesLeft, shiftsLeft, marksLeft, syncsLeft}
+use Rattle.lanes.specs.Lane.{runsLeft, placesAt, placesLeft, shiftsLeft, syncsLeft}
 use Rattle.lanes.specs.declared.Runs.{Runs}
 use Rattle.lanes.specs.declared.Place.{Place}
 use Rattle.lanes.specs.declared.Shift.{Shift}
@@ -46,8 +50,17 @@ abbrev pub shiftOf : Runs → Shift
 shiftOf c = shiftBy (c .left) c
 
 -- a cursor over stss that is ready has the next number, or no sample has it
-abbrev pub MarkReady : List ℕ → Marks → Type 0
-MarkReady ns m = m .number ≡ 0 → (n : ℕ) → 0 < n → flagOf (those (marksLeft ns m)) n ≡ false
+abbrev pub MarkReady : List ℕ → Optional → Marks → Type 0
+MarkReady f Absent m = Unit {0}
+MarkReady f (At t) m = m .number ≡ 0 → (n : ℕ) → 0 < n → flagOf (syncsLeft f (At t) m) n ≡ false
+
+-- whether sample n is sync, by a cursor that is ready; and the cursor after it
+abbrev pub syncOf : Optional → Marks → ℕ → Bool
+syncOf Absent m n = true
+syncOf (At t) m n = eqb (m .number) n
+
+abbrev pub unmarked : Marks → ℕ → Marks
+unmarked m n = record { next = m .next; number = when (eqb (m .number) n) 0 (m .number) }
 
 -- the samples from sample n on, where it has size z and lasts d, p is ready with its place, and c has the durations
 -- after it

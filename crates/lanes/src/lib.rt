@@ -3,17 +3,18 @@
 ghost use mathlib.Core.Path.{_≡_};
 ghost use Prim.Native.Nat.{_<_};
 ghost use lib.ListN.{drop};
-ghost use Rattle.tables.specs.Tables.{valuesOf, chunks, numbers};
-ghost use Rattle.tables.specs.Samples.{firstOr, rest, flagOf, pastOf};
+ghost use lib.Dec.{eqb};
+ghost use Rattle.numbers.specs.Field.{when};
+ghost use Rattle.tables.specs.Tables.{valuesOf, chunks};
+ghost use Rattle.tables.specs.Samples.{firstOr, rest};
 ghost use Rattle.tables.specs.Rows.{rowsOf};
 ghost use Rattle.samples.specs.Lists.{view};
-ghost use Rattle.lanes.specs.Lane.{runsLeft, shiftsLeft, marksLeft, syncsLeft, left, begun, fresh, shows};
-ghost use Rattle.lanes.specs.Steps.{rowsAt, Ready, afterOf, SamePlaces, PlaceReady, shiftOf, MarkReady, samplesFrom};
+ghost use Rattle.lanes.specs.Lane.{runsLeft, shiftsLeft, syncsLeft, left, begun, fresh, shows};
+ghost use Rattle.lanes.specs.Steps.{rowsAt, Ready, afterOf, SamePlaces, PlaceReady, shiftOf, MarkReady, syncOf, samplesFrom};
 use samples::Sample;
 use tables::Chunks;
 use tables::Optional;
 use tables::Rows;
-use tables::Table;
 use tables::Track;
 
 // The last position that a sample may end at, and the first time that none has (9).
@@ -178,13 +179,16 @@ pub struct Marks {
 }
 
 // The cursor with the next sync sample's number, where there is one. A number 0 is no sample's, and is not passed.
-fn mark_ready(file: &[u8], t: Table, m: Marks) -> Marks
-    ensures same { λ r. ⌜ marksLeft (numbers (now (file .entry)) t) r ≡ marksLeft (numbers (now (file .entry)) t) m ⌝ }
-    ensures ready { λ r. ⌜ MarkReady (numbers (now (file .entry)) t) r ⌝ }
+fn mark_ready(file: &[u8], o: Optional, m: Marks) -> Marks
+    ensures same { λ r. ⌜ syncsLeft (now (file .entry)) o r ≡ syncsLeft (now (file .entry)) o m ⌝ }
+    ensures ready { λ r. ⌜ MarkReady (now (file .entry)) o r ⌝ }
 {
     if m.number != 0 {
         return m;
     }
+    let Optional::At(t) = o else {
+        return m;
+    };
     if t.count <= m.next {
         return m;
     }
@@ -198,32 +202,24 @@ fn mark_ready(file: &[u8], t: Table, m: Marks) -> Marks
     }
 }
 
-// Whether a sample is sync, and the cursor after it.
-struct Sync {
-    pub is: bool,
-    pub rest: Marks,
+// Whether the sample of that number is sync, where m is ready.
+fn sync_at(o: Optional, m: Marks, number: u32) -> bool
+    ensures { λ r. ⌜ r ≡ syncOf o m number ⌝ }
+{
+    match o {
+        Optional::Absent => true,
+        Optional::At(_) => m.number == number,
+    }
 }
 
-// Whether the sample of that number is the next sync one.
-fn sync_at(file: &[u8], o: Optional, m: Marks, number: u32) -> Sync
-    requires { ⌜ 0 < number ⌝ }
-    ensures is { λ r. ⌜ r .is ≡ flagOf (syncsLeft (now (file .entry)) o m) number ⌝ }
-    ensures rest { λ r. ⌜ syncsLeft (now (file .entry)) o (r .rest) ≡ pastOf (syncsLeft (now (file .entry)) o m) number ⌝ }
+// What is left of the number that was read, when the sample of that number has come.
+fn unless_it_is(mark: u32, number: u32) -> u32
+    ensures { λ r. ⌜ r ≡ when (eqb mark number) 0 mark ⌝ }
 {
-    let Optional::At(t) = o else {
-        return Sync { is: true, rest: m };
-    };
-    let r = mark_ready(file, t, m);
-    if r.number == number {
-        return Sync {
-            is: true,
-            rest: Marks {
-                next: r.next,
-                number: 0,
-            },
-        };
+    if mark == number {
+        return 0;
     }
-    Sync { is: false, rest: r }
+    mark
 }
 
 // done: how many samples were given; time: the next one's.
@@ -306,8 +302,8 @@ fn give(
     let shift = shift_next(file, ctts, shifts);
     let stss = track.stss;
     let marks = lane.syncs;
-    let sync = sync_at(file, stss, marks, number);
-    let unmarked = sync.rest;
+    let ready = mark_ready(file, stss, marks);
+    let sync = sync_at(stss, ready, number);
     let composition = words::as_signed(shift.value);
     let further = shift.rest;
     let runs = p.groups;
@@ -319,14 +315,17 @@ fn give(
             time: time,
             duration: duration,
             composition: composition,
-            sync: sync.is,
+            sync: sync,
         },
         lane: Lane {
             done: number,
             time: later,
             times: times,
             shifts: further,
-            syncs: unmarked,
+            syncs: Marks {
+                next: ready.next,
+                number: unless_it_is(ready.number, number),
+            },
             place: Place {
                 left: p.left - 1,
                 at: end,
