@@ -1,0 +1,88 @@
+// The samples of a track as its tables tell them: how many there are, and all of them as records in a lent buffer.
+ghost use mathlib.Core.Path.{_≡_};
+ghost use Rattle.tables.specs.Samples.{samplesOf};
+ghost use Rattle.samples.specs.Records.{output, listOf};
+ghost use Rattle.samples.specs.declared.Listed.the-variants.{Refused};
+ghost use Rattle.numbers.specs.Field.{refusal};
+ghost use Rattle.lists.specs.Count.{countOf};
+use lanes::Taken;
+use numbers::Refusal;
+use samples::Listed;
+use tables::Track;
+
+// How many samples a track has. Over: one of them does not fit (refusal 9).
+pub enum Counted {
+    Is(usize),
+    Over,
+}
+
+// The samples, counted one by one.
+fn walk(file: &[u8], track: Track) -> Counted
+    ensures { λ r. ⌜ r ≡ countOf (samplesOf (now (file .entry)) track) ⌝ }
+{
+    let mut lane = lanes::start();
+    let mut n: usize = 0;
+    loop {
+        match lanes::next(file, track, lane) {
+            Taken::End => {
+                return Counted::Is(n);
+            }
+            Taken::Over => {
+                return Counted::Over;
+            }
+            Taken::One {
+                sample: _,
+                lane: rest,
+            } => {
+                n += 1;
+                lane = rest;
+            }
+        }
+    }
+}
+
+// How many samples a track has, where each of them fits.
+pub fn count(file: &[u8], track: Track) -> Counted
+    ensures { λ r. ⌜ r ≡ countOf (samplesOf (now (file .entry)) track) ⌝ }
+{
+    walk(file, track)
+}
+
+fn refuse(number: u32, detail: usize) -> Listed
+    ensures { λ r. ⌜ r ≡ Refused (refusal number detail) ⌝ }
+{
+    Listed::Refused(Refusal {
+        number: number,
+        detail: detail,
+    })
+}
+
+// Every sample as a record, one behind the other; or the buffer as it was, and 9 where a sample does not fit, then 12
+// where the records have no room.
+pub fn list(file: &[u8], track: Track, out: &mut [u64]) -> Listed
+    ensures { λ r. ⌜ output r (now (out .exit)) ≡ listOf (samplesOf (now (file .entry)) track) (now (out .entry)) ⌝ }
+{
+    let Counted::Is(n) = count(file, track) else {
+        return refuse(9, 0);
+    };
+    if out.len() / samples::RECORD < n {
+        return refuse(12, n);
+    }
+    let mut lane = lanes::start();
+    let mut i: usize = 0;
+    loop {
+        match lanes::next(file, track, lane) {
+            Taken::End => {
+                return Listed::Done(n);
+            }
+            Taken::Over => {
+                return refuse(9, 0); // not here: every sample was found to fit
+            }
+            Taken::One { sample, lane: rest } => {
+                samples::put(out, i, sample);
+                i += 1;
+                lane = rest;
+            }
+        }
+    }
+}
