@@ -1,14 +1,23 @@
 // The samples of a track as its tables tell them: how many there are, and all of them as records in a lent buffer.
 ghost use mathlib.Core.Path.{_≡_};
+ghost use mathlib.Core.Bool.{true};
+ghost use Rattle.tables.specs.Tables.{chunks};
 ghost use Rattle.tables.specs.Samples.{samplesOf};
+ghost use Rattle.samples.specs.Lists.{allHeld};
 ghost use Rattle.samples.specs.Records.{output, listOf};
 ghost use Rattle.samples.specs.declared.Listed.the-variants.{Refused};
 ghost use Rattle.numbers.specs.Field.{refusal};
-ghost use Rattle.lists.specs.Count.{countOf};
+ghost use Rattle.lists.specs.Count.{countOf, allLow};
 use lanes::Taken;
 use numbers::Refusal;
 use samples::Listed;
+use tables::Chunks;
 use tables::Track;
+
+// The sizes of as many samples as this come to less than 2^63, and so do their durations.
+const MANY: u32 = 0x8000_0000;
+
+const HALF: u64 = 0x8000_0000_0000_0000;
 
 // How many samples a track has. Over: one of them does not fit (refusal 9).
 pub enum Counted {
@@ -39,6 +48,37 @@ fn walk(file: &[u8], track: Track) -> Counted
             }
         }
     }
+}
+
+// Whether every chunk begins below 2^63.
+fn all_low(file: &[u8], t: Chunks) -> bool
+    ensures { λ r. ⌜ r ≡ allLow (chunks (now (file .entry)) t) ⌝ }
+{
+    let mut i: u32 = 0;
+    while i < t.count {
+        let at = tables::offset_at(file, t, i);
+        if HALF <= at {
+            return false;
+        }
+        i += 1;
+    }
+    true
+}
+
+// Where there are at most 2^31 samples, and every chunk begins below 2^63, each of them fits, since sizes and durations
+// have 32 bits. The offsets of stco have 32 bits too.
+fn surely_held(file: &[u8], track: Track) -> bool
+    ensures { λ r. ⌜ (r ≡ true → allHeld (samplesOf (now (file .entry)) track) ≡ true) ⌝ }
+{
+    let sizes = track.stsz;
+    if MANY < sizes.count {
+        return false;
+    }
+    let places = track.stco;
+    if places.wide {
+        return all_low(file, places);
+    }
+    true
 }
 
 // How many samples a track has, where each of them fits.
