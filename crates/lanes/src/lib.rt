@@ -314,7 +314,8 @@ pub fn next(file: &[u8], track: Track, lane: Lane) -> Taken
     let chunks = track.stco;
     let stsc = track.stsc;
     let place = lane.place;
-    let PlaceStep::At(p) = place_next(file, tables::groups(stsc, chunks.count), chunks, place) else {
+    let PlaceStep::At(p) = place_next(file, tables::groups(stsc, chunks.count), chunks, place)
+    else {
         return Taken::End;
     };
     give(file, track, lane, number, size, value, rest, p)
