@@ -6,15 +6,14 @@ use mathlib.Core.List.{List, [], _∷_, _++_}
 use mathlib.Core.Bool.{Bool, true, false, _&&_}
 use native.Mathlib.Omega.{arith}
 use lib.ListN.{length, take, drop, replicate, length-drop}
-use lib.Dec.{ltb, leb, eqb}
+use lib.Dec.{ltb, eqb}
 use borrow.Author.Tests.{lt-ltb, le-ltb, ltb-true}
 use Rattle.numbers.specs.Number.{be}
 use Rattle.numbers.specs.Field.{when, field, fits, orZero}
 use Rattle.numbers.proofs.Laws.{Bytes, be-below}
-use Rattle.samples.specs.Lists.{endBound, timeBound, held, allHeld}
-use Rattle.samples.specs.declared.Sample.{Sample}
-use Rattle.tables.specs.Tables.{listFrom, listed, valuesOf, pairAt, pairs, groups, offsetAt, chunks, sizeAt, sizes, shifts, Syncs, syncs}
-use Rattle.tables.specs.Samples.{starts, place, firstOr, rest, flagOf, pastOf, zipped, samplesOf}
+use Rattle.samples.specs.Lists.{endBound, timeBound, allHeld}
+use Rattle.tables.specs.Tables.{listFrom, valuesOf, pairAt, pairs, groups, offsetAt, chunks, sizeAt, sizes, shifts, Syncs, syncs}
+use Rattle.tables.specs.Samples.{starts, place, rest, pastOf, zipped, samplesOf}
 use Rattle.tables.specs.declared.Row.{Row}
 use Rattle.tables.specs.declared.Sizes.{Sizes}
 use Rattle.tables.specs.declared.Chunks.{Chunks}

@@ -8,8 +8,6 @@ use Rattle.lists.specs.Count.{allLow}
 use Rattle.lists.proofs.Held.{low-end, low-more, low-stop}
 use Rattle.lists.proofs.all_low.Statement.{statement}
 use Rattle.lists.proofs.all_low.Tie as tie
-use Rattle.lists.proofs.all_low.Reads as reads
-use Rattle.lists.proofs.all_low.Lts as lts
 use Rattle.tables.proofs.offset_at.Reads as offset-at-reads
 
 abbrev Inv-loop : tie.InvT-loop

@@ -6,8 +6,6 @@ use Rattle.lists.proofs.Held.{below-low, narrow-below, surely, says-not
 use borrow.Author.Needs.{needs}
 use Rattle.lists.proofs.surely_held.Statement.{statement}
 use Rattle.lists.proofs.surely_held.Tie as tie
-use Rattle.lists.proofs.surely_held.Reads as reads
-use Rattle.lists.proofs.surely_held.Lts as lts
 use Rattle.lists.proofs.all_low.Reads as all-low-reads
 
 -- src/lib.rt:75:9
