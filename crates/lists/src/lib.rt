@@ -119,12 +119,16 @@ pub fn list(file: &[u8], track: Track, out: &mut [u64]) -> Listed
                 return Listed::Done(n);
             }
             Taken::Over => {
-                return refuse(9, 0); // not here: every sample was found to fit
+                // Not here: every sample was found to fit.
+                return Listed::Done(i);
             }
-            Taken::One { sample, lane: rest } => {
+            Taken::One {
+                sample,
+                lane: after,
+            } => {
                 samples::put(out, i, sample);
                 i += 1;
-                lane = rest;
+                lane = after;
             }
         }
     }
