@@ -4,7 +4,7 @@ use mathlib.Core.Path.{_≡_, sym, ap, ap₂, subst, _∙_}
 use mathlib.Core.List.{List, [], _∷_}
 use mathlib.Core.Bool.{Bool}
 use native.Mathlib.Omega.{arith}
-use lib.ListN.{length, take, drop, length-drop}
+use lib.ListN.{length, take, drop}
 use Rattle.signed.specs.Signed.{signed}
 use Rattle.samples.specs.declared.Sample.{Sample}
 use Rattle.samples.specs.Lists.{bytesOf}
@@ -24,7 +24,7 @@ use Rattle.seek.specs.declared.Value.the-variants as value
 use Rattle.seek.specs.declared.Spot.{Spot}
 use Rattle.seek.specs.declared.Spot.the-variants as spot
 use Rattle.lookup.specs.Lookup.{shiftAt, sampleAt}
-use Rattle.lookup.proofs.Parts.{later, after-some, next-one, numbered, bytes-sizes, take-list, part-list, Told, value-told, value-few, Lies, spot-lies, spot-few, spot-many}
+use Rattle.lookup.proofs.Parts.{later, next-one, numbered-at, bytes-sizes, take-list, part-list, Told, value-told, value-few, Lies, spot-lies, spot-few, spot-many}
 
 -- a list begins with that sample
 pub record There (l : List Sample) (s : Sample) : Type 0 where
@@ -152,11 +152,9 @@ module _ (f : List ℕ) (t : Track) where
   -- the sample of a number is the one that has it
   pub flag-there : (k : ℕ) → k < length (samplesOf f t) → Flagged (drop k (samplesOf f t)) (syncAt (syncs f (t .stss)) (k + 1))
   flag-there k h =
-      let e = after-some k 0 0 (sizes f (t .stsz)) lasts lie (shifts f (t .ctts)) (syncs f (t .stss)) in
-      let n = numbered (0 + k) (0 + sum (take k lasts)) (drop k (sizes f (t .stsz))) (drop k lasts) (drop k lie) (drop k (shifts f (t .ctts)))
-      (later k 0 (syncs f (t .stss))) (omega (arith, ap length e, length-drop k (samplesOf f t))) in
+      let n = numbered-at k 0 0 (sizes f (t .stsz)) lasts lie (shifts f (t .ctts)) (syncs f (t .stss)) h in
       let c : n .head .sync ≡ syncAt (syncs f (t .stss)) (n .head .number) =
-      subst (λ (l : List Sample). All (λ s. s .sync ≡ syncAt (syncs f (t .stss)) (s .number)) l) (e ∙ n .is)
+      subst (λ (l : List Sample). All (λ s. s .sync ≡ syncAt (syncs f (t .stss)) (s .number)) l) (n .is)
       (all-drop (λ s. s .sync ≡ syncAt (syncs f (t .stss)) (s .number)) k (samplesOf f t) (sync-is f t)) .0 in
       let a : 0 + k + 1 ≡ k + 1 = omega arith in
-      record { head = n .head; tail = n .tail; is = e ∙ n .is; flag = c ∙ ap (λ (x : ℕ). syncAt (syncs f (t .stss)) x) (n .number ∙ a) }
+      record { head = n .head; tail = n .tail; is = n .is; flag = c ∙ ap (λ (x : ℕ). syncAt (syncs f (t .stss)) x) (n .number ∙ a) }

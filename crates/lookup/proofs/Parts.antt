@@ -74,7 +74,7 @@ pub record Numbered (l : List Sample) (n : ℕ) : Type 0 where
   pub is : l ≡ head ∷ tail
   pub number : head .number ≡ n
 
-pub numbered : (n m : ℕ) (ss ds os cs : List ℕ) (ys : Syncs) → 0 < length (zipped n m ss ds os cs ys) → Numbered (zipped n m ss ds os cs ys) (n + 1)
+numbered : (n m : ℕ) (ss ds os cs : List ℕ) (ys : Syncs) → 0 < length (zipped n m ss ds os cs ys) → Numbered (zipped n m ss ds os cs ys) (n + 1)
 numbered n m [] ds os cs ys h = absurd (omega arith)
 numbered n m (z ∷ ss) [] os cs ys h = absurd (omega arith)
 numbered n m (z ∷ ss) (d ∷ ds) [] cs ys h = absurd (omega arith)
@@ -85,6 +85,13 @@ numbered n m (z ∷ ss) (d ∷ ds) (o ∷ os) cs ys h =
       is = refl;
       number = refl;
     }
+
+pub numbered-at : (k n m : ℕ) (ss ds os cs : List ℕ) (ys : Syncs) → k < length (zipped n m ss ds os cs ys)
+    → Numbered (drop k (zipped n m ss ds os cs ys)) (n + k + 1)
+numbered-at k n m ss ds os cs ys h =
+    let e = after-some k n m ss ds os cs ys in
+    let r = numbered (n + k) (m + sum (take k ds)) (drop k ss) (drop k ds) (drop k os) (drop k cs) (later k n ys) (omega (arith, ap length e, length-drop k (zipped n m ss ds os cs ys))) in
+    record { head = r .head; tail = r .tail; is = e ∙ r .is; number = r .number }
 
 -- the bytes of the samples are as many sizes as there are samples
 pub bytes-sizes : (n m : ℕ) (ss ds os cs : List ℕ) (ys : Syncs)

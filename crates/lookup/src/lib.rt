@@ -4,6 +4,7 @@ ghost use mathlib.Core.Path.{_≡_};
 ghost use mathlib.Core.List.{[], _∷_};
 ghost use Prim.Native.Nat.{_+_, min};
 ghost use lib.ListN.{length, take};
+ghost use lib.Dec.{leb};
 ghost use Rattle.numbers.specs.Field.{refusal};
 ghost use Rattle.samples.specs.Lists.{firstOf, lookupOf, bytesOf};
 ghost use Rattle.tables.specs.Tables.{sum, valuesOf, pairs, groups, syncs};
@@ -15,6 +16,7 @@ use samples::Sample;
 use seek::Spot;
 use seek::Value;
 use tables::Optional;
+use tables::Sizes;
 use tables::Table;
 use tables::Track;
 
@@ -172,6 +174,13 @@ fn told(
     })
 }
 
+// Whether stsz does not count sample k, counted from 0: a common size reaches no further.
+fn uncounted(t: Sizes, k: u32) -> bool
+    ensures { λ r. ⌜ r ≡ leb (t .count) k ⌝ }
+{
+    t.count <= k
+}
+
 // The sample of that number, counted from 1; 11 where there is none, 9 where it does not fit.
 pub fn sample(file: &[u8], track: Track, number: u32) -> Found
     ensures { λ r. ⌜ r ≡ lookupOf (samplesOf (now (file .entry)) track) number ⌝ }
@@ -181,7 +190,7 @@ pub fn sample(file: &[u8], track: Track, number: u32) -> Found
     }
     let k = number - 1;
     let sizes = track.stsz;
-    if sizes.count <= k {
+    if uncounted(sizes, k) {
         return Found::Refused(absent(number));
     }
     let size = tables::size_at(file, sizes, k);

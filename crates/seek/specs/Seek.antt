@@ -1,11 +1,11 @@
 -- What a track's tables say of the sample of one number, counted from 0 here: a value of a table of runs, with the sum of
 -- the values before it (ISO/IEC 14496-12, 8.6.1.2 and 8.6.1.3); the chunk that it lies in (8.7.4); the bytes between two
 -- samples (8.7.3). Every number in ℕ. Assumes nothing.
-use Prim.Native.Nat.{ℕ, suc, _-_}
+use Prim.Native.Nat.{ℕ, suc, _-_, _*_, _/_, _^_}
 use mathlib.Core.List.{List, [], _∷_}
 use lib.ListN.{length, take, drop}
 use lib.Dec.{ltb}
-use Rattle.numbers.specs.Field.{when}
+use Rattle.numbers.specs.Field.{when, orZero}
 use Rattle.tables.specs.Tables.{listFrom, sum, valuesOf, sizeAt}
 use Rattle.tables.specs.Rows.{rowsOf}
 use Rattle.tables.specs.declared.Rows.{Rows}
@@ -39,3 +39,16 @@ spotOf ns k = spotFrom (sum ns) 0 ns k
 -- the bytes of the samples from the first number up to, and without, the second
 unfoldable pub spanOf : List ℕ → Sizes → ℕ → ℕ → ℕ
 spanOf f t from to = sum (listFrom (sizeAt f t) (to - from) from)
+
+-- INSIDE
+
+-- the bytes of as many sizes as stsz can count
+abbrev pub longest : ℕ
+longest = (2 ^ 32 - 1) * 4
+
+-- number i of four bytes in a part, and all of them that are whole, added up
+abbrev pub wordOf : List ℕ → ℕ → ℕ
+wordOf p i = orZero 4 p (i * 4)
+
+unfoldable pub wordsSum : List ℕ → ℕ
+wordsSum p = sum (listFrom (wordOf p) (length p / 4) 0)

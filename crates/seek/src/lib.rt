@@ -1,10 +1,12 @@
 // What a track's tables say of one sample, by its number, counted from 0: entries are passed over whole, and no sample
 // is visited on the way. Nothing is refused here.
 ghost use mathlib.Core.Path.{_≡_};
-ghost use Prim.Native.Nat.{min};
+ghost use Prim.Native.Nat.{_≤_, min};
+ghost use lib.ListN.{length};
 ghost use Rattle.tables.specs.Tables.{valuesOf};
 ghost use Rattle.tables.specs.Rows.{rowsOf};
-ghost use Rattle.seek.specs.Seek.{valueOf, perChunk, spotOf, spanOf};
+ghost use Rattle.seek.specs.Seek.{valueOf, perChunk, spotOf, spanOf, longest, wordsSum};
+use numbers::U32;
 use tables::Rows;
 use tables::Sizes;
 
@@ -81,17 +83,46 @@ pub fn chunk_at(file: &[u8], rows: Rows, k: u32) -> Spot
     Spot::Few(k - (left as u32))
 }
 
-// The listed sizes from sample `from` up to sample `to`, without it, added in 64 bits.
-fn listed_span(file: &[u8], t: Sizes, from: u32, to: u32) -> u64
-    ensures { λ r. ⌜ r ≡ spanOf (now (file .entry)) t from to ⌝ }
+// The numbers of four bytes in a part, added in 64 bits: its length alone bounds the walk, so that a number costs one
+// test. Bytes at the end that are no whole number count nothing.
+fn sum_of(part: &[u8]) -> u64
+    requires { ⌜ length (now part) ≤ longest ⌝ }
+    ensures { λ r. ⌜ r ≡ wordsSum (now (part .entry)) ⌝ }
 {
-    let mut i = from;
+    let mut i = 0;
     let mut sum = 0;
-    while i < to {
-        sum += tables::size_at(file, t, i) as u64;
-        i += 1;
+    while i < part.len() {
+        let U32::Is(n) = numbers::u32_at(part, i) else {
+            return sum;
+        };
+        sum += n as u64;
+        i += 4;
     }
     sum
+}
+
+// The listed sizes from sample `from` up to sample `to`, without it: those that the file does not hold are 0.
+fn listed_span(file: &[u8], t: Sizes, from: u32, to: u32) -> u64
+    requires { ⌜ t .common ≡ 0 ⌝ }
+    ensures { λ r. ⌜ r ≡ spanOf (now (file .entry)) t from to ⌝ }
+{
+    if to <= from {
+        return 0;
+    }
+    if file.len() < t.at {
+        return 0;
+    }
+    let skipped = (from as usize) * 4;
+    if file.len() - t.at < skipped {
+        return 0;
+    }
+    let start = t.at + skipped;
+    let long = ((to - from) as usize) * 4;
+    if file.len() - start < long {
+        return sum_of(&file[start..]);
+    }
+    let end = start + long;
+    sum_of(&file[start..end])
 }
 
 // The bytes of the samples from `from` up to `to`, without it. A common size needs no visit.

@@ -1,3 +1,5 @@
+use mathlib.Core.Path.{sym, _∙_}
+use borrow.Author.Tests.{leb-true, leb-false}
 use Rattle.tables.specs.Samples.{samplesOf}
 use Rattle.lookup.proofs.Cases.{zero-absent, past-absent, no-size, no-time, no-place, some-before, looked-up}
 use borrow.Author.Needs.{needs}
@@ -13,11 +15,14 @@ returns c = zero-absent (samplesOf (c .before .before .before .args .file .now) 
 sub-k : tie.Need-sub-k
 sub-k c = search needs
 
+uncounted-requires : tie.Need-uncounted-requires
+uncounted-requires c κs = search needs
+
 absent-requires-2 : tie.Need-absent-requires-2
 absent-requires-2 c κs = search needs
 
 returns-2 : tie.Need-returns-2
-returns-2 c = past-absent (samplesOf (c .before .before .before .before .before .before .args .file .now) (c .before .before .before .before .before .before .args .track)) _ _ (c .absent2 .ensures) (c .before .before .before .before .if1 .left) (no-size (c .before .before .before .before .before .before .args .file .now) (c .before .before .before .before .before .before .args .track) _ (c .before .before .before .before .if1 .left) (c .before .if2 .taken))
+returns-2 c = past-absent (samplesOf (c .before .before .before .before .before .before .args .file .now) (c .before .before .before .before .before .before .args .track)) _ _ (c .absent2 .ensures) (c .before .before .before .before .if1 .left) (no-size (c .before .before .before .before .before .before .args .file .now) (c .before .before .before .before .before .before .args .track) _ (c .before .before .before .before .if1 .left) (leb-true _ _ (sym (c .before .before .uncounted .ensures) ∙ c .before .if2 .taken)))
 
 size-at-requires : tie.Need-size-at-requires
 size-at-requires c κs = search needs
@@ -62,7 +67,7 @@ offset-at-requires : tie.Need-offset-at-requires
 offset-at-requires c κs = search needs
 
 sub-span : tie.Need-sub-span
-sub-span c = some-before (c .before .before .before .before .before .before .before .before .before .before .before .before .before .before .before .before .before .before .before .before .args .file .now) (c .before .before .before .before .before .before .before .before .before .before .before .before .before .before .before .before .before .before .before .before .args .track) _ (c .before .before .before .before .before .before .before .before .before .before .before .before .before .before .before .before .before .before .if1 .left) _ (c .before .before .before .before .before .before .before .before .before .before .before .before .pairs .ensures) _ (c .before .before .before .before .before .before .before .before .before .before .before .value-at .ensures) _ _ (c .before .before .before .before .before .before .before .before .before .value .given .1) _ (c .before .before .before .before .before .groups .ensures) _ (c .before .before .before .before .chunk-at .ensures) (c .before .before .before .before .before .before .before .before .before .before .before .before .before .before .before .if2 .left) _ _ (c .before .before .chunk .given .1)
+sub-span c = some-before (c .before .before .before .before .before .before .before .before .before .before .before .before .before .before .before .before .before .before .before .before .args .file .now) (c .before .before .before .before .before .before .before .before .before .before .before .before .before .before .before .before .before .before .before .before .args .track) _ (c .before .before .before .before .before .before .before .before .before .before .before .before .before .before .before .before .before .before .if1 .left) _ (c .before .before .before .before .before .before .before .before .before .before .before .before .pairs .ensures) _ (c .before .before .before .before .before .before .before .before .before .before .before .value-at .ensures) _ _ (c .before .before .before .before .before .before .before .before .before .value .given .1) _ (c .before .before .before .before .before .groups .ensures) _ (c .before .before .before .before .chunk-at .ensures) (leb-false _ _ (sym (c .before .before .before .before .before .before .before .before .before .before .before .before .before .before .before .before .uncounted .ensures) ∙ c .before .before .before .before .before .before .before .before .before .before .before .before .before .before .before .if2 .left)) _ _ (c .before .before .chunk .given .1)
 
 span-requires : tie.Need-span-requires
 span-requires c κs = search needs
@@ -71,7 +76,7 @@ told-requires : tie.Need-told-requires
 told-requires c κs = search needs
 
 returns-5 : tie.Need-returns-5
-returns-5 c = looked-up (c .before .before .before .before .before .before .before .before .before .before .before .before .before .before .before .before .before .before .before .before .before .before .args .file .now) (c .before .before .before .before .before .before .before .before .before .before .before .before .before .before .before .before .before .before .before .before .before .before .args .track) _ (c .before .before .before .before .before .before .before .before .before .before .before .before .before .before .before .before .before .before .before .before .if1 .left) _ (c .before .before .before .before .before .before .before .before .before .before .before .before .before .before .pairs .ensures) _ (c .before .before .before .before .before .before .before .before .before .before .before .before .before .value-at .ensures) _ _ (c .before .before .before .before .before .before .before .before .before .before .before .value .given .1) _ (c .before .before .before .before .before .before .before .groups .ensures) _ (c .before .before .before .before .before .before .chunk-at .ensures) (c .before .before .before .before .before .before .before .before .before .before .before .before .before .before .before .before .before .if2 .left) _ _ (c .before .before .before .before .chunk .given .1) _ _ _ _ (c .before .before .before .before .before .before .before .before .before .before .before .before .before .before .before .before .size-at .ensures) (c .before .before .offset-at .ensures) (c .before .span .ensures) (c .told .ensures)
+returns-5 c = looked-up (c .before .before .before .before .before .before .before .before .before .before .before .before .before .before .before .before .before .before .before .before .before .before .args .file .now) (c .before .before .before .before .before .before .before .before .before .before .before .before .before .before .before .before .before .before .before .before .before .before .args .track) _ (c .before .before .before .before .before .before .before .before .before .before .before .before .before .before .before .before .before .before .before .before .if1 .left) _ (c .before .before .before .before .before .before .before .before .before .before .before .before .before .before .pairs .ensures) _ (c .before .before .before .before .before .before .before .before .before .before .before .before .before .value-at .ensures) _ _ (c .before .before .before .before .before .before .before .before .before .before .before .value .given .1) _ (c .before .before .before .before .before .before .before .groups .ensures) _ (c .before .before .before .before .before .before .chunk-at .ensures) (leb-false _ _ (sym (c .before .before .before .before .before .before .before .before .before .before .before .before .before .before .before .before .before .before .uncounted .ensures) ∙ c .before .before .before .before .before .before .before .before .before .before .before .before .before .before .before .before .before .if2 .left)) _ _ (c .before .before .before .before .chunk .given .1) _ _ _ _ (c .before .before .before .before .before .before .before .before .before .before .before .before .before .before .before .before .size-at .ensures) (c .before .before .offset-at .ensures) (c .before .span .ensures) (c .told .ensures)
 
 pub sample-spec : {M : Type 1} → statement M
 sample-spec =
@@ -80,6 +85,7 @@ sample-spec =
     absent-requires
     returns
     sub-k
+    uncounted-requires
     absent-requires-2
     returns-2
     size-at-requires
