@@ -1,0 +1,4 @@
+pub mod Sums
+pub mod Walk
+mod Vectors
+mod Unique
