@@ -9,7 +9,6 @@ use borrow.Author.Tests.{lt-ltb, le-ltb}
 use Rattle.numbers.specs.Field.{when}
 use Rattle.layout.specs.Rule.{isSet}
 use Rattle.trun.specs.Trun.{durationBit, sizeBit}
-use Rattle.trun.specs.declared.Sample as own
 use Rattle.samples.specs.Lists.{none, over}
 use Rattle.samples.specs.declared.Sample.{Sample}
 use Rattle.runs.specs.Values.{ownOf, durationAt, sizeAt, flagsBy, flagsAt, syncBy}
@@ -17,6 +16,7 @@ use Rattle.runs.specs.Samples.{sampleAt, samplesFrom}
 use Rattle.runs.specs.Lane.{left, shown, shows}
 use Rattle.runs.specs.declared.Run.{Run}
 use Rattle.runs.specs.declared.Lane.{Lane}
+use Rattle.trun.specs.declared.Sample as own
 use Rattle.runs.specs.declared.Taken.the-variants as taken
 
 and-false : (x : Bool) → (x && false) ≡ false

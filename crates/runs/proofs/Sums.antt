@@ -2,12 +2,12 @@
 use Prim.Native.Nat.{ℕ, zero, suc, _+_, _-_, _*_, _^_, _≤_, _<_}
 use mathlib.Core.Path.{_≡_, refl, sym, ap, _∙_}
 use mathlib.Core.List.{List}
+use mathlib.Core.Bool.{false}
 use native.Mathlib.Omega.{arith}
 use native.Mathlib.Nat.{suc-mul, zero-mul, mul-le-mul-right}
 use Rattle.numbers.proofs.Chain.{is-lt, not-lt, by-false}
 use Rattle.layout.specs.Rule.{isSet}
 use Rattle.trun.specs.Trun.{sizeBit}
-use mathlib.Core.Bool.{false}
 use Rattle.runs.specs.Values.{ownOf, sizeAt}
 use Rattle.runs.specs.Samples.{sumFrom, endAt, endBy}
 use Rattle.runs.specs.declared.Run.{Run}

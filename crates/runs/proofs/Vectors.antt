@@ -1,8 +1,8 @@
 -- Worked examples of the definitions, computed. Assumes nothing.
+use Prim.Native.Nat.{ℕ}
 use mathlib.Core.Path.{_≡_, refl}
 use mathlib.Core.List.{List, [], _∷_, _++_}
 use mathlib.Core.Bool.{true, false}
-use Prim.Native.Nat.{ℕ}
 use lib.IntN.{pos, negsuc}
 use Rattle.numbers.specs.Number.{be, bytes}
 use Rattle.numbers.specs.Field.{refusal, field, when}
@@ -11,18 +11,14 @@ use Rattle.layout.specs.Rule.{ruleOf}
 use Rattle.layout.specs.Read.{one, decode}
 use Rattle.layout.specs.Table.{cutOf}
 use Rattle.rounds.proofs.Example.{box}
-use Rattle.samples.specs.Lists as list
 use Rattle.samples.specs.declared.Sample.{Sample}
 use Rattle.tfhd.specs.Tfhd.{tfhdOf}
 use Rattle.tfhd.specs.declared.Tfhd.{Tfhd}
-use Rattle.tfhd.specs.declared.Found.the-variants as tfhd
 use Rattle.trex.specs.declared.Trex.{Trex}
 use Rattle.tfdt.specs.Tfdt.{tfdtOf}
 use Rattle.tfdt.specs.declared.Tfdt.{Tfdt}
-use Rattle.tfdt.specs.declared.Found.the-variants as tfdt
 use Rattle.trun.specs.Trun.{optional, trunOf}
 use Rattle.trun.specs.declared.Trun.{Trun}
-use Rattle.trun.specs.declared.Found.the-variants as trun
 use Rattle.runs.specs.Make.{baseOf, makeOf}
 use Rattle.runs.specs.Values.{ownOf, durationAt, sizeAt, flagsBy}
 use Rattle.runs.specs.Samples.{sampleAt, runSamples, endAt, endOf, timeAfter}
@@ -31,6 +27,10 @@ use Rattle.runs.specs.declared.Run.{Run}
 use Rattle.runs.specs.declared.Lane.{Lane}
 use Rattle.runs.specs.declared.Made.the-variants.{Is, Refused}
 use Rattle.runs.specs.declared.DataEnd.the-variants.{At, Over}
+use Rattle.samples.specs.Lists as list
+use Rattle.tfhd.specs.declared.Found.the-variants as tfhd
+use Rattle.tfdt.specs.declared.Found.the-variants as tfdt
+use Rattle.trun.specs.declared.Found.the-variants as trun
 
 -- CASE 7: a traf whose tfdt is 9,000 and whose three samples last 3,000 each, as its bytes
 
