@@ -11,12 +11,16 @@ use tables::Track;
 // The most samples of a track.
 const SAMPLES: u32 = 65536;
 
+fn plus(a: u64, b: u64) -> u64 {
+    std::num::wrapping_add_u64(a, b)
+}
+
 // All numbers of the records.
 fn mixed(out: &[u64; 458752]) -> u64 {
     let mut mix: u64 = 0;
     let mut i = 0;
     while i < 458752 {
-        mix = mix ^ out[i];
+        mix = plus(mix, out[i]);
         i += 1;
     }
     mix
@@ -44,11 +48,11 @@ fn look(file: &[u8], track: Track) -> u64 {
         let samples::Found::Is(s) = lookup::sample(file, track, number) else {
             return mix;
         };
-        mix = mix ^ s.offset;
-        mix = mix ^ s.time;
-        mix = mix ^ (s.size as u64);
-        mix = mix ^ (s.duration as u64);
-        mix = mix ^ negative(s.composition);
+        mix = plus(mix, s.offset);
+        mix = plus(mix, s.time);
+        mix = plus(mix, s.size as u64);
+        mix = plus(mix, s.duration as u64);
+        mix = plus(mix, negative(s.composition));
     }
     mix
 }
@@ -61,7 +65,7 @@ fn sync(file: &[u8], track: Track) -> u64 {
         let Synced::Is(yes) = lookup::is_sync(file, track, number) else {
             return many;
         };
-        many = many ^ marked(number, yes);
+        many = plus(many, marked(number, yes));
     }
     many
 }
@@ -95,10 +99,10 @@ fn rounds(file: &[u8], track: Track) {
     let n = os::arg_count();
     let mut i = 1;
     while i < n {
-        mix = mix ^ round(file, track, letter_of(i), &mut out);
+        mix = plus(mix, round(file, track, letter_of(i), &mut out));
         i += 1;
     }
-    io::print_decimal(STDOUT_FILENO, mix ^ mixed(&out));
+    io::print_decimal(STDOUT_FILENO, plus(mix, mixed(&out)));
     io::write_all(STDOUT_FILENO, b"\n");
 }
 
