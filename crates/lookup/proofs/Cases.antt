@@ -12,7 +12,7 @@ use borrow.Author.Tests.{eq-eqb, ne-eqb, lt-ltb, le-ltb}
 use Rattle.numbers.specs.Field.{when, refusal, orZero}
 use Rattle.numbers.specs.declared.Refusal.{Refusal}
 use Rattle.signed.specs.Signed.{signed}
-use Rattle.samples.specs.Lists.{held, firstOf, lookupOf, bytesOf}
+use Rattle.samples.specs.Lists.{held, located, firstOf, lookupOf, bytesOf}
 use Rattle.samples.specs.declared.Sample.{Sample}
 use Rattle.samples.specs.declared.Found.{Found}
 use Rattle.samples.specs.declared.Found.the-variants as found
@@ -130,7 +130,7 @@ and-false false = refl
 module _ (n : ℕ) (s : Sample) (q : Refusal) (e : q ≡ refusal 9 0) where
   over-by : held s ≡ false → found.Refused q ≡ firstOf n (s ∷ [])
   unfolding when
-  over-by h = ap found.Refused e ∙ sym (ap (λ (b : Bool). when b (found.Is s) (found.Refused (refusal 9 0))) h)
+  over-by h = ap found.Refused e ∙ sym (ap (λ (b : Bool). when b (found.Is (located s)) (found.Refused (refusal 9 0))) h)
 
   pub over-end : 2 ^ 64 ≤ s .offset + s .size → found.Refused q ≡ firstOf n (s ∷ [])
   over-end h = over-by (ap (λ (b : Bool). b && ltb (s .time) (2 ^ 63)) (le-ltb (s .offset + s .size) (2 ^ 64) h))
@@ -138,17 +138,16 @@ module _ (n : ℕ) (s : Sample) (q : Refusal) (e : q ≡ refusal 9 0) where
   pub over-time : 2 ^ 63 ≤ s .time → found.Refused q ≡ firstOf n (s ∷ [])
   over-time h = over-by (ap (λ (b : Bool). ltb (s .offset + s .size) (2 ^ 64) && b) (le-ltb (s .time) (2 ^ 63) h) ∙ and-false (ltb (s .offset + s .size) (2 ^ 64)))
 
-is-held : (n : ℕ) (s : Sample) → s .offset + s .size < 2 ^ 64 → s .time < 2 ^ 63 → found.Is s ≡ firstOf n (s ∷ [])
+is-held : (n : ℕ) (s : Sample) → s .offset + s .size < 2 ^ 64 → s .time < 2 ^ 63 → found.Is (located s) ≡ firstOf n (s ∷ [])
 unfolding when
 is-held n s h g =
-    sym (ap₂ (λ (a b : Bool). when (a && b) (found.Is s) (found.Refused (refusal 9 0))) (lt-ltb (s .offset + s .size) (2 ^ 64) h) (lt-ltb (s .time) (2 ^ 63) g))
+    sym (ap₂ (λ (a b : Bool). when (a && b) (found.Is (located s)) (found.Refused (refusal 9 0))) (lt-ltb (s .offset + s .size) (2 ^ 64) h) (lt-ltb (s .time) (2 ^ 63) g))
 
-pub told-is : (f : List ℕ) (t : Track) (k n at z m d v : ℕ) (co : ℤ) (b : Bool) → at + z < 2 ^ 64 → m < 2 ^ 63
-    → v ≡ shiftAt f (t .ctts) k → co ≡ signed 4 v → b ≡ syncAt (syncs f (t .stss)) n
-    → found.Is (record { number = n; offset = at; size = z; time = m; duration = d; composition = co; sync = b }) ≡ firstOf n (sampleAt f t k n at z m d ∷ [])
-told-is f t k n at z m d v co b h g ev ec eb =
-    ap₂ (λ (x : ℤ) (y : Bool). found.Is (record { number = n; offset = at; size = z; time = m; duration = d; composition = x; sync = y }))
-    (ec ∙ ap (signed 4) ev) eb
+pub told-is : (f : List ℕ) (t : Track) (k n at z m d v : ℕ) (co : ℤ) → at + z < 2 ^ 64 → m < 2 ^ 63
+    → v ≡ shiftAt f (t .ctts) k → co ≡ signed 4 v
+    → found.Is (record { offset = at; size = z; time = m; duration = d; composition = co }) ≡ firstOf n (sampleAt f t k n at z m d ∷ [])
+told-is f t k n at z m d v co h g ev ec =
+    ap (λ (x : ℤ). found.Is (record { offset = at; size = z; time = m; duration = d; composition = x })) (ec ∙ ap (signed 4) ev)
     ∙ is-held n (sampleAt f t k n at z m d) h g
 
 module _ (l : List Sample) where

@@ -7,7 +7,7 @@ use mathlib.Core.Bool.{Bool, true, false}
 use native.Mathlib.Omega.{arith}
 use lib.ListN.{length, take, drop, drop-of-length-le}
 use Rattle.numbers.specs.Field.{when, refusal}
-use Rattle.samples.specs.Lists.{held, firstOf, lookupOf}
+use Rattle.samples.specs.Lists.{held, located, firstOf, lookupOf}
 use Rattle.samples.specs.declared.Sample.{Sample}
 use Rattle.samples.specs.declared.Found.the-variants.{Is, Refused}
 use Rattle.tables.specs.Tables.{valuesOf, pairs, groups, chunks, sizes, shifts, Syncs, syncs}
@@ -22,11 +22,11 @@ module _ (f : List ℕ) (t : Track) (n : ℕ) where
   none-past-the-end h = ap (firstOf (suc n)) (drop-of-length-le (samplesOf f t) h)
 
   module _ (s : Sample) (l : List Sample) (e : drop n (samplesOf f t) ≡ s ∷ l) where
-    by-held : (b : Bool) → held s ≡ b → lookupOf (samplesOf f t) (suc n) ≡ when b (Is s) (Refused (refusal 9 0))
+    by-held : (b : Bool) → held s ≡ b → lookupOf (samplesOf f t) (suc n) ≡ when b (Is (located s)) (Refused (refusal 9 0))
     unfolding lookupOf
-    by-held b h = ap (firstOf (suc n)) e ∙ ap (λ (x : Bool). when x (Is s) (Refused (refusal 9 0))) h
+    by-held b h = ap (firstOf (suc n)) e ∙ ap (λ (x : Bool). when x (Is (located s)) (Refused (refusal 9 0))) h
 
-    pub lookup-is-the-entry : held s ≡ true → lookupOf (samplesOf f t) (suc n) ≡ Is s
+    pub lookup-is-the-entry : held s ≡ true → lookupOf (samplesOf f t) (suc n) ≡ Is (located s)
     unfolding when
     lookup-is-the-entry h = by-held true h
 

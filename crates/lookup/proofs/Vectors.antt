@@ -2,7 +2,7 @@
 use Prim.Native.Nat.{ℕ}
 use mathlib.Core.Path.{_≡_, refl}
 use mathlib.Core.List.{[], _∷_}
-use mathlib.Core.Bool.{Bool, true, false}
+use mathlib.Core.Bool.{true, false}
 use lib.IntN.{ℤ, pos, negsuc}
 use lib.ListN.{length}
 use Rattle.numbers.specs.Number.{be, bytes}
@@ -19,31 +19,31 @@ use Rattle.tables.proofs.Vectors.{file, track, common}
 use Rattle.lookup.specs.Lookup.{syncOf}
 use Rattle.lookup.specs.declared.Synced.the-variants as synced
 
-abbrev is : ℕ → ℕ → ℕ → ℕ → ℕ → ℤ → Bool → Found
-is n o z m d c b = found.Is (record { number = n; offset = o; size = z; time = m; duration = d; composition = c; sync = b })
+abbrev is : ℕ → ℕ → ℕ → ℕ → ℤ → Found
+is o z m d c = found.Is (record { offset = o; size = z; time = m; duration = d; composition = c })
 
 -- stts (3,1000)(3,500); stsc (1,2)(3,1) with chunks at 48, 78, 148, 198; sizes 10 to 60 by tens
-pub case-1-first : lookupOf (samplesOf file track) 1 ≡ is 1 48 10 0 1000 (pos 7) true
+pub case-1-first : lookupOf (samplesOf file track) 1 ≡ is 48 10 0 1000 (pos 7)
 unfolding be bytes field when signed pairAt groupAt offsetAt sizeAt numberAt lookupOf
 case-1-first = refl
 
-pub case-1-second : lookupOf (samplesOf file track) 2 ≡ is 2 58 20 1000 1000 (negsuc 1) false
+pub case-1-second : lookupOf (samplesOf file track) 2 ≡ is 58 20 1000 1000 (negsuc 1)
 unfolding be bytes field when signed pairAt groupAt offsetAt sizeAt numberAt lookupOf
 case-1-second = refl
 
-pub case-1-third : lookupOf (samplesOf file track) 3 ≡ is 3 78 30 2000 1000 (pos 0) false
+pub case-1-third : lookupOf (samplesOf file track) 3 ≡ is 78 30 2000 1000 (pos 0)
 unfolding be bytes field when signed pairAt groupAt offsetAt sizeAt numberAt lookupOf
 case-1-third = refl
 
-pub case-1-fourth : lookupOf (samplesOf file track) 4 ≡ is 4 108 40 3000 500 (pos 0) true
+pub case-1-fourth : lookupOf (samplesOf file track) 4 ≡ is 108 40 3000 500 (pos 0)
 unfolding be bytes field when signed pairAt groupAt offsetAt sizeAt numberAt lookupOf
 case-1-fourth = refl
 
-pub case-1-fifth : lookupOf (samplesOf file track) 5 ≡ is 5 148 50 3500 500 (pos 0) false
+pub case-1-fifth : lookupOf (samplesOf file track) 5 ≡ is 148 50 3500 500 (pos 0)
 unfolding be bytes field when signed pairAt groupAt offsetAt sizeAt numberAt lookupOf
 case-1-fifth = refl
 
-pub case-1-sixth : lookupOf (samplesOf file track) 6 ≡ is 6 198 60 4000 500 (pos 0) false
+pub case-1-sixth : lookupOf (samplesOf file track) 6 ≡ is 198 60 4000 500 (pos 0)
 unfolding be bytes field when signed pairAt groupAt offsetAt sizeAt numberAt lookupOf
 case-1-sixth = refl
 
@@ -89,7 +89,7 @@ case-over : lookupOf (samplesOf file wide) 2 ≡ found.Refused (refusal 9 0)
 unfolding be bytes field when signed pairAt groupAt offsetAt sizeAt numberAt lookupOf
 case-over = refl
 
-case-after-over : lookupOf (samplesOf file wide) 3 ≡ is 3 0 30 2000 1000 (pos 0) true
+case-after-over : lookupOf (samplesOf file wide) 3 ≡ is 0 30 2000 1000 (pos 0)
 unfolding be bytes field when signed pairAt groupAt offsetAt sizeAt numberAt lookupOf
 case-after-over = refl
 

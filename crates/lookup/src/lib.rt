@@ -12,7 +12,7 @@ ghost use Rattle.tables.specs.Samples.{syncAt, samplesOf};
 ghost use Rattle.lookup.specs.Lookup.{syncOf, shiftAt, sampleAt};
 use numbers::Refusal;
 use samples::Found;
-use samples::Sample;
+use samples::Located;
 use seek::Spot;
 use seek::Value;
 use tables::Optional;
@@ -161,16 +161,12 @@ fn told(
     }
     let ctts = track.ctts;
     let composition = words::as_signed(shift(file, ctts, k));
-    let stss = track.stss;
-    let sync = flag(file, stss, number);
-    Found::Is(Sample {
-        number: number,
+    Found::Is(Located {
         offset: at,
         size: size,
         time: time,
         duration: duration,
         composition: composition,
-        sync: sync,
     })
 }
 

@@ -15,9 +15,19 @@ pub struct Sample {
     pub sync: bool,
 }
 
+// What a lookup tells of a sample: its place, its size and its times. Whether it is sync is asked by itself, since the
+// answer stands in a list that may be long.
+pub struct Located {
+    pub offset: u64,
+    pub size: u32,
+    pub time: u64,
+    pub duration: u32,
+    pub composition: i64,
+}
+
 // A sample by its number, or the refusal.
 pub enum Found {
-    Is(Sample),
+    Is(Located),
     Refused(Refusal),
 }
 

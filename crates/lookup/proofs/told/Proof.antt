@@ -1,13 +1,16 @@
-use Prim.Native.Nat.{_+_}
-use native.Mathlib.Omega.{arith}
-use mathlib.Core.Path.{_∙_}
+use Rattle.lookup.proofs.Cases.{over-end, over-time, told-is}
+use Rattle.lookup.specs.Lookup.{sampleAt}
 use mir.Facts.{toZ-ofZ}
 use mir.Syntax.{w64}
-use Rattle.lookup.specs.Lookup.{sampleAt}
-use Rattle.lookup.proofs.Cases.{over-end, over-time, told-is}
+use native.Mathlib.Omega.{arith}
+use mathlib.Core.Path.{_∙_}
+use Prim.Native.Nat.{_+_}
 use borrow.Author.Needs.{needs}
 use Rattle.lookup.proofs.told.Statement.{statement}
 use Rattle.lookup.proofs.told.Tie as tie
+use Rattle.lookup.proofs.over.Reads as over-reads
+use Rattle.lookup.proofs.shift.Reads as shift-reads
+use Rattle.words.proofs.as_signed.Reads as as-signed-reads
 
 sub-if1 : tie.Need-sub-if1
 sub-if1 c = search needs
@@ -42,11 +45,8 @@ shift-requires c κs = search needs
 as-signed-requires : tie.Need-as-signed-requires
 as-signed-requires c κs = search needs
 
-flag-requires : tie.Need-flag-requires
-flag-requires c κs = search needs
-
 returns-4 : tie.Need-returns-4
-returns-4 c = told-is (c .before .before .before .before .before .before .before .args .file .now) (c .before .before .before .before .before .before .before .args .track) (c .before .before .before .before .before .before .before .args .k) _ _ _ _ _ _ _ _ (omega arith) (c .before .before .before .if3 .left) (c .before .before .shift .ensures) (toZ-ofZ {w = w64} {z = c .before .as-signed .result} (record { sfits = c .before .as-signed .ok }) ∙ c .before .as-signed .ensures) (c .flag .ensures)
+returns-4 c = told-is (c .before .before .before .before .before .before .args .file .now) (c .before .before .before .before .before .before .args .track) (c .before .before .before .before .before .before .args .k) (c .before .before .before .before .before .before .args .number) _ _ _ _ _ _ (omega arith) (c .before .before .if3 .left) (c .before .shift .ensures) (toZ-ofZ {w = w64} {z = c .as-signed .result} (record { sfits = c .as-signed .ok }) ∙ c .as-signed .ensures)
 
 pub told-spec : {M : Type 1} → statement M
 told-spec =
@@ -63,5 +63,4 @@ told-spec =
     returns-3
     shift-requires
     as-signed-requires
-    flag-requires
     returns-4)

@@ -1,0 +1,5 @@
+pub mod Cases
+pub mod Left
+pub mod Views
+pub mod Vectors
+mod Unique

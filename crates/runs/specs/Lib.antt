@@ -1,0 +1,4 @@
+pub mod Make
+pub mod Values
+pub mod Samples
+pub mod Lane
