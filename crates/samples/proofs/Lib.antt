@@ -1,2 +1,4 @@
 pub mod Complement
 pub mod Stored
+pub mod Unique
+pub mod Vectors
