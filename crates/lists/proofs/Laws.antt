@@ -19,7 +19,7 @@ use Rattle.tables.specs.Samples.{samplesOf}
 use Rattle.tables.specs.declared.Track.{Track}
 use Rattle.tables.proofs.Lengths.{how-many}
 use Rattle.lanes.proofs.Views.{Stuck}
-use Rattle.lists.specs.Count.{countOf}
+use Rattle.lists.specs.Count.{countOf, Filled}
 use Rattle.lists.specs.declared.Counted.{Counted}
 use Rattle.lists.specs.declared.Counted.the-variants as counted
 
@@ -124,36 +124,41 @@ put-more o i s m h =
     ∙ ap (λ (k : ℕ). sets (sets o (i * 7) (numbersOf s)) k (recordsOf m)) e
     ∙ sets-append o (i * 7) (numbersOf s) (recordsOf m)
 
--- of all samples, which fit and have room in o, i are stored: p is the buffer, and l is left
-pub record Listing (all l : List Sample) (o p : List ℕ) (i : ℕ) : Type 0 where
+-- i of all samples are put: p is the buffer, which was o, and l is left
+pub record Filling (all l : List Sample) (o p : List ℕ) (i : ℕ) : Type 0 where
   pub walk : Walk all l i
-  pub fit : allHeld all ≡ true
-  pub room : length all ≤ length o / 7
   pub same : length p ≡ length o
-  pub then : sets p (i * 7) (recordsOf l) ≡ sets o 0 (recordsOf all)
+  pub then : length all ≤ length o / 7 → sets p (i * 7) (recordsOf l) ≡ sets o 0 (recordsOf all)
 
-pub lists : (all l : List Sample) (o : List ℕ) (n : ℕ) → l ≡ all → (allHeld all ≡ true) × (n ≡ length all) → n ≤ length o / 7 → Listing all l o o 0
-lists all l o n e h k =
-    record { walk = begins all l e; fit = h .0; room = omega (arith, k, h .1); same = refl; then = ap (λ (m : List Sample). sets o 0 (recordsOf m)) e }
+pub fills : (all l : List Sample) (o : List ℕ) → l ≡ all → Filling all l o o 0
+fills all l o e = record { walk = begins all l e; same = refl; then = λ h. ap (λ (m : List Sample). sets o 0 (recordsOf m)) e }
 
-module _ (all l : List Sample) (o p : List ℕ) (i : ℕ) (w : Listing all l o p i) where
-  pub lists-on : (s : Sample) (m : List Sample) (q : List ℕ) → (l ≡ s ∷ m) × (held s ≡ true) → q ≡ putOf p i s → Listing all m o q (i + 1)
-  lists-on s m q e g =
-      let h : i < length p / 7 = omega (arith, w .walk .many, ap length (e .0), w .room, w .same) in
+module _ (all l : List Sample) (o p : List ℕ) (i : ℕ) (w : Filling all l o p i) where
+  pub fills-on : (s : Sample) (m : List Sample) (q : List ℕ) → (l ≡ s ∷ m) × (held s ≡ true) → q ≡ putOf p i s → Filling all m o q (i + 1)
+  fills-on s m q e g =
       record {
         walk = goes-on all l i (w .walk) s m e;
-        fit = w .fit;
-        room = w .room;
         same = ap length g ∙ put-length p i s ∙ w .same;
-        then = ap (λ (r : List ℕ). sets r ((i + 1) * 7) (recordsOf m)) g ∙ put-more p i s m h ∙ ap (λ (k : List Sample). sets p (i * 7) (recordsOf k)) (sym (e .0)) ∙ w .then;
+        then = λ room.
+            let h : i < length p / 7 = omega (arith, w .walk .many, ap length (e .0), room, w .same) in
+            ap (λ (r : List ℕ). sets r ((i + 1) * 7) (recordsOf m)) g ∙ put-more p i s m h ∙ ap (λ (k : List Sample). sets p (i * 7) (recordsOf k)) (sym (e .0)) ∙ w .then room;
       }
 
-  pub lists-end : (n : ℕ) → (allHeld all ≡ true) × (n ≡ length all) → l ≡ [] → output (listed.Done n) p ≡ listOf all o
-  lists-end n h e =
-      list-all all o n p h (omega (arith, w .room, h .1)) (sym (ap (λ (k : List Sample). sets p (i * 7) (recordsOf k)) e) ∙ w .then)
+  pub fills-end : l ≡ [] → (counted.Is i ≡ countOf all) × Filled all o p
+  fills-end e = (
+    ends all l i (w .walk) e,
+    λ room h. sym (ap (λ (k : List Sample). sets p (i * 7) (recordsOf k)) e) ∙ w .then room,
+  )
 
-  pub lists-not : Stuck l → ⊥
-  lists-not e =
-      let z : true ≡ false = sym (w .fit) ∙ sym (w .walk .fit) ∙ held-stuck l e in
-      let y : _≡_ {A = ℕ} 0 1 = cc in
-      omega arith
+  pub fills-not : Stuck l → (counted.Over ≡ countOf all) × Filled all o p
+  fills-not e = (stops all l i (w .walk) e, λ room h. absurd (never h))
+    where
+      never : allHeld all ≡ true → ⊥
+      never h =
+          let z : true ≡ false = sym h ∙ sym (w .walk .fit) ∙ held-stuck l e in
+          let y : _≡_ {A = ℕ} 0 1 = cc in
+          omega arith
+
+-- the listing, where all fit and have room
+pub lists-all : (l : List Sample) (o p : List ℕ) (n : ℕ) → Filled l o p → (allHeld l ≡ true) × (n ≡ length l) → n ≤ length o / 7 → output (listed.Done n) p ≡ listOf l o
+lists-all l o p n f h k = list-all l o n p h k (f (omega (arith, k, h .1)) (h .0))

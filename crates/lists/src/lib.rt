@@ -7,7 +7,7 @@ ghost use Rattle.samples.specs.Lists.{allHeld};
 ghost use Rattle.samples.specs.Records.{output, listOf};
 ghost use Rattle.samples.specs.declared.Listed.the-variants.{Refused};
 ghost use Rattle.numbers.specs.Field.{refusal};
-ghost use Rattle.lists.specs.Count.{countOf, allLow};
+ghost use Rattle.lists.specs.Count.{countOf, Filled, allLow};
 use lanes::Taken;
 use numbers::Refusal;
 use samples::Listed;
@@ -25,29 +25,40 @@ pub enum Counted {
     Over,
 }
 
-// The samples, counted one by one.
-fn walk(file: &[u8], track: Track) -> Counted
-    ensures { λ r. ⌜ r ≡ countOf (samplesOf (now (file .entry)) track) ⌝ }
+// The samples one by one: counted, and put into the buffer as far as it has room. One loop serves the listing and the
+// count, so that the lane's step is there once, inside of it.
+fn fill(file: &[u8], track: Track, out: &mut [u64]) -> Counted
+    ensures count { λ r. ⌜ r ≡ countOf (samplesOf (now (file .entry)) track) ⌝ }
+    ensures records { λ r. ⌜ Filled (samplesOf (now (file .entry)) track) (now (out .entry)) (now (out .exit)) ⌝ }
 {
     let mut lane = lanes::start();
-    let mut n: usize = 0;
+    let mut i: usize = 0;
     loop {
         match lanes::next(file, track, lane) {
             Taken::End => {
-                return Counted::Is(n);
+                return Counted::Is(i);
             }
             Taken::Over => {
                 return Counted::Over;
             }
             Taken::One {
-                sample: _,
-                lane: rest,
+                sample,
+                lane: after,
             } => {
-                n += 1;
-                lane = rest;
+                samples::put(out, i, sample);
+                i += 1;
+                lane = after;
             }
         }
     }
+}
+
+// The samples counted one by one, by a buffer that has room for none.
+fn walk(file: &[u8], track: Track) -> Counted
+    ensures { λ r. ⌜ r ≡ countOf (samplesOf (now (file .entry)) track) ⌝ }
+{
+    let mut none = [0u64; 1];
+    fill(file, track, &mut none)
 }
 
 // Whether every chunk begins below 2^63.
@@ -111,25 +122,6 @@ pub fn list(file: &[u8], track: Track, out: &mut [u64]) -> Listed
     if out.len() / samples::RECORD < n {
         return refuse(12, n);
     }
-    let mut lane = lanes::start();
-    let mut i: usize = 0;
-    loop {
-        match lanes::next(file, track, lane) {
-            Taken::End => {
-                return Listed::Done(n);
-            }
-            Taken::Over => {
-                // Not here: every sample was found to fit.
-                return Listed::Done(i);
-            }
-            Taken::One {
-                sample,
-                lane: after,
-            } => {
-                samples::put(out, i, sample);
-                i += 1;
-                lane = after;
-            }
-        }
-    }
+    fill(file, track, out);
+    Listed::Done(n)
 }

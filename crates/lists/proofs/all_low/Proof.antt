@@ -16,31 +16,24 @@ Inv-loop file t i₀ i = (allLow (drop i (chunks file t)) ≡ allLow (chunks fil
 abbrev μ-loop : tie.MeasureT-loop
 μ-loop file t i₀ i = t .count - i
 
--- src/lib.rt:58:5
 loop-holds : tie.Need-loop-holds Inv-loop μ-loop
 loop-holds c = refl
 
--- src/lib.rt:59:13
 offset-at-requires : tie.Need-offset-at-requires Inv-loop μ-loop
 offset-at-requires c κs = search needs
 
--- src/lib.rt:61:13
 returns : tie.Need-returns Inv-loop μ-loop
 returns c = low-stop (c .before .before .before .before .before .before .args .file .now) (c .before .before .before .before .before .before .args .t) (c .before .before .before .before .loop .i) _ (c .before .before .if1 .taken) (c .before .offset-at .ensures) (c .if2 .taken) ∙ c .before .before .before .before .loop .inv
 
--- src/lib.rt:63:9
 add-i : tie.Need-add-i Inv-loop μ-loop
 add-i c = search needs
 
--- src/lib.rt:58:5
 loop-less : tie.Need-loop-less Inv-loop μ-loop
 loop-less c = omega arith
 
--- src/lib.rt:58:5
 loop-again : tie.Need-loop-again Inv-loop μ-loop
 loop-again c = low-more (c .before .before .before .before .before .before .args .file .now) (c .before .before .before .before .before .before .args .t) (c .before .before .before .before .loop .i) _ (c .before .before .if1 .taken) (c .before .offset-at .ensures) (c .if2 .left) ∙ c .before .before .before .before .loop .inv
 
--- src/lib.rt:54:1
 returns-2 : tie.Need-returns-2 Inv-loop μ-loop
 returns-2 c = low-end (c .before .before .before .before .args .file .now) (c .before .before .before .before .args .t) (c .before .before .loop .i) (c .if1 .left) ∙ c .before .before .loop .inv
 
