@@ -2,16 +2,18 @@
 use Prim.Native.Nat.{ℕ, _+_, _-_, _^_, _≤_, _<_}
 use mathlib.Core.Path.{_≡_, refl, sym, ap, ap₂, _∙_}
 use mathlib.Core.List.{List, [], _∷_}
-use mathlib.Core.Bool.{Bool, true, false, _&&_}
+use mathlib.Core.Bool.{Bool}
 use lib.ListN.{drop}
 use lib.IntN.{ℤ}
 use lib.Dec.{eqb}
-use borrow.Author.Tests.{lt-ltb, le-ltb}
+use Rattle.samples.proofs.Fits.{held-is, no-end, view-held, view-not}
+use Rattle.samples.proofs.Fits as fits
 use Rattle.numbers.specs.Field.{when}
 use Rattle.signed.specs.Signed.{signed}
 use Rattle.tables.specs.Tables.{pairs, groups, chunks, sizes, sizeAt, Syncs}
 use Rattle.tables.specs.Samples.{firstOr, rest, flagOf, pastOf, zipped}
-use Rattle.samples.specs.Lists.{none, over, view}
+use Rattle.samples.specs.Lists.{none, over, one, view}
+use Rattle.samples.specs.declared.Sample.{Sample}
 use Rattle.lanes.specs.Lane.{runsLeft, placesAt, placesLeft, shiftsLeft, syncsLeft, sizesLeft, left, shows}
 use Rattle.tables.specs.Rows.{pairRows, groupRows, rowsOf}
 use Rattle.lanes.specs.Steps.{Ready, afterOf, SamePlaces, PlaceReady, MarkReady, syncOf, samplesFrom}
@@ -26,10 +28,6 @@ use Rattle.lanes.specs.declared.Taken.{Taken}
 use Rattle.lanes.specs.declared.Taken.the-variants as taken
 use Rattle.lanes.proofs.Cases.{run-one, place-one, mark-tells}
 use Rattle.tables.proofs.Lists.{list-cons, list-nil, rows-pairs, rows-groups}
-
-and-false : (x : Bool) → (x && false) ≡ false
-and-false true = refl
-and-false false = refl
 
 module _ (f : List ℕ) (t : Track) (l : Lane) where
   -- what the lane has left of each table, and of the tables themselves
@@ -106,15 +104,32 @@ module _ (f : List ℕ) (t : Track) (l : Lane) where
 -- the sample that is given
 
 module _ (f : List ℕ) (t : Track) (l : Lane) (n z d : ℕ) (c : Runs) (p : Place) where
+  abbrev first : Sample
+  first = record {
+    number = n;
+    offset = p .at;
+    size = z;
+    time = l .time;
+    duration = d;
+    composition = signed 4 (firstOr 0 (shiftsLeft f (t .ctts) (l .shifts)));
+    sync = flagOf (syncsLeft f (t .stss) (l .syncs)) n;
+  }
+
+  abbrev more : List Sample
+  more =
+      zipped n (l .time + d) (drop n (sizes f (t .stsz))) (runsLeft (pairs f (t .stts)) c)
+      (placesAt (groups f (t .stsc) (t .stco .count)) (chunks f (t .stco)) (p .left - 1) (p .at + z) (p .chunk) (p .groups) (drop n (sizes f (t .stsz))))
+      (rest (shiftsLeft f (t .ctts) (l .shifts))) (pastOf (syncsLeft f (t .stss) (l .syncs)) n)
+
   pub over-end : 2 ^ 64 ≤ p .at + z → over ≡ view (samplesFrom f t l n z d c p)
-  unfolding samplesFrom when
-  over-end k = rw (le-ltb (p .at + z) (2 ^ 64) k)
+  unfolding samplesFrom
+  over-end k = sym (view-not first more (no-end first k))
 
   pub over-time : 2 ^ 63 ≤ l .time → over ≡ view (samplesFrom f t l n z d c p)
-  unfolding samplesFrom when
-  over-time k = rw (le-ltb (l .time) (2 ^ 63) k, and-false)
+  unfolding samplesFrom
+  over-time k = sym (view-not first more (fits.no-time first k))
 
-  pub takes : (v : ℕ) (rs : Runs) (m : Marks) (b : Bool) (i : ℕ) (co : ℤ) → p .at + z < 2 ^ 64 → l .time < 2 ^ 63 → 0 < n
+  pub takes : (v : ℕ) (rs : Runs) (m : Marks) (b : Bool) (i : ℕ) (co : ℤ) → p .at + z < 2 ^ 64 → l .time < 2 ^ 63 → 0 < n → n < 2 ^ 32
       → v ≡ firstOr 0 (shiftsLeft f (t .ctts) (l .shifts)) → shiftsLeft f (t .ctts) rs ≡ rest (shiftsLeft f (t .ctts) (l .shifts))
       → syncsLeft f (t .stss) m ≡ syncsLeft f (t .stss) (l .syncs) → MarkReady f (t .stss) m
       → b ≡ syncOf (t .stss) m n → i ≡ when (eqb (m .number) n) 0 (m .number)
@@ -130,9 +145,14 @@ module _ (f : List ℕ) (t : Track) (l : Lane) (n z d : ℕ) (c : Runs) (p : Pla
         place = record { left = p .left - 1; at = p .at + z; chunk = p .chunk; groups = p .groups };
       }))
       ≡ view (samplesFrom f t l n z d c p)
-  unfolding left samplesFrom when
-  takes v rs m b i co k e y ev er em h eb ei ec =
+  unfolding left samplesFrom
+  takes v rs m b i co k e y small ev er em h eb ei ec =
       let w = mark-tells f m n y (t .stss) h in
       let sb : b ≡ flagOf (syncsLeft f (t .stss) (l .syncs)) n = eb ∙ w .0 ∙ ap (λ (s : Syncs). flagOf s n) em in
       let sp : syncsLeft f (t .stss) (record { next = m .next; number = i }) ≡ pastOf (syncsLeft f (t .stss) (l .syncs)) n = ap (λ (j : ℕ). syncsLeft f (t .stss) (record { next = m .next; number = j })) ei ∙ w .1 ∙ ap (λ (s : Syncs). pastOf s n) em in
-      rw (ec, ev, er, sb, sp, lt-ltb (p .at + z) (2 ^ 64) k, lt-ltb (l .time) (2 ^ 63) e)
+      let same : one (record { number = n; offset = p .at; size = z; time = l .time; duration = d; composition = co; sync = b })
+      (zipped n (l .time + d) (drop n (sizes f (t .stsz))) (runsLeft (pairs f (t .stts)) c)
+      (placesAt (groups f (t .stsc) (t .stco .count)) (chunks f (t .stco)) (p .left - 1) (p .at + z) (p .chunk) (p .groups) (drop n (sizes f (t .stsz))))
+      (shiftsLeft f (t .ctts) rs) (syncsLeft f (t .stss) (record { next = m .next; number = i })))
+      ≡ one first more = rw (ec, ev, er, sb, sp) in
+      same ∙ sym (view-held first more (held-is first small k e))

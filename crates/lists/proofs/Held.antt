@@ -1,7 +1,7 @@
 -- Samples that surely fit: where there are at most 2^31, and every chunk begins below 2^63, since sizes and durations
 -- have 32 bits. Assumes nothing.
 use Prim.Native.Nat.{ℕ, zero, suc, _+_, _*_, _^_, _≤_, _<_}
-use mathlib.Core.Path.{_≡_, refl, sym, ap, ap₂, _∙_}
+use mathlib.Core.Path.{_≡_, refl, sym, ap, _∙_}
 use mathlib.Core.List.{List, [], _∷_, _++_}
 use mathlib.Core.Bool.{Bool, true, false, _&&_}
 use native.Mathlib.Omega.{arith}
@@ -11,9 +11,12 @@ use borrow.Author.Tests.{lt-ltb, le-ltb, ltb-true}
 use Rattle.numbers.specs.Number.{be}
 use Rattle.numbers.specs.Field.{when, field, fits, orZero}
 use Rattle.numbers.proofs.Laws.{Bytes, be-below}
+use Rattle.signed.specs.Signed.{signed}
+use Rattle.samples.proofs.Fits.{held-is}
+use Rattle.samples.specs.declared.Sample.{Sample}
 use Rattle.samples.specs.Lists.{endBound, timeBound, allHeld}
 use Rattle.tables.specs.Tables.{listFrom, valuesOf, pairAt, pairs, groups, offsetAt, chunks, sizeAt, sizes, shifts, Syncs, syncs}
-use Rattle.tables.specs.Samples.{starts, place, rest, pastOf, zipped, samplesOf}
+use Rattle.tables.specs.Samples.{starts, place, firstOr, rest, flagOf, pastOf, zipped, samplesOf}
 use Rattle.tables.specs.declared.Row.{Row}
 use Rattle.tables.specs.declared.Sizes.{Sizes}
 use Rattle.tables.specs.declared.Chunks.{Chunks}
@@ -106,14 +109,14 @@ room-place (n ∷ ns) (o ∷ cs) ss c b h =
 
 -- SAMPLES
 
-held-zipped : (n m : ℕ) (ss ds os cs : List ℕ) (ys : Syncs) → Below (2 ^ 32) ds → Room ss os → m + length ss * 2 ^ 32 ≤ timeBound → allHeld (zipped n m ss ds os cs ys) ≡ true
-held-zipped n m [] ds os cs ys b r h = refl
-held-zipped n m (z ∷ ss) [] os cs ys b r h = refl
-held-zipped n m (z ∷ ss) (d ∷ ds) [] cs ys b r h = refl
-held-zipped n m (z ∷ ss) (d ∷ ds) (o ∷ os) cs ys b r h =
-    let k : m < timeBound = omega (arith, h) in
-    ap₂ (λ (x y : Bool). x && y && allHeld (zipped (n + 1) (m + d) ss ds os (rest cs) (pastOf ys (n + 1)))) (lt-ltb (o + z) endBound (r .0)) (lt-ltb m timeBound k)
-    ∙ held-zipped (n + 1) (m + d) ss ds os (rest cs) (pastOf ys (n + 1)) (b .1) (r .1) (omega (arith, b .0, h))
+held-zipped : (n m : ℕ) (ss ds os cs : List ℕ) (ys : Syncs) → Below (2 ^ 32) ds → Room ss os → n + length ss ≤ 2 ^ 31 → m + length ss * 2 ^ 32 ≤ timeBound → allHeld (zipped n m ss ds os cs ys) ≡ true
+held-zipped n m [] ds os cs ys b r k h = refl
+held-zipped n m (z ∷ ss) [] os cs ys b r k h = refl
+held-zipped n m (z ∷ ss) (d ∷ ds) [] cs ys b r k h = refl
+held-zipped n m (z ∷ ss) (d ∷ ds) (o ∷ os) cs ys b r k h =
+    let s : Sample = record { number = n + 1; offset = o; size = z; time = m; duration = d; composition = signed 4 (firstOr 0 cs); sync = flagOf ys (n + 1) } in
+    ap (λ (x : Bool). x && allHeld (zipped (n + 1) (m + d) ss ds os (rest cs) (pastOf ys (n + 1)))) (held-is s (omega (arith, k)) (r .0) (omega (arith, h)))
+    ∙ held-zipped (n + 1) (m + d) ss ds os (rest cs) (pastOf ys (n + 1)) (b .1) (r .1) (omega (arith, k)) (omega (arith, b .0, h))
 
 pub surely : (f : List ℕ) (t : Track) → Bytes f → t .stsz .common < 2 ^ 32 → t .stsz .count ≤ 2 ^ 31 → Below timeBound (chunks f (t .stco)) → allHeld (samplesOf f t) ≡ true
 surely f t h w k c =
@@ -122,7 +125,7 @@ surely f t h w k c =
     held-zipped 0 0 ss (valuesOf (pairs f (t .stts))) (place (valuesOf (groups f (t .stsc) (t .stco .count))) (chunks f (t .stco)) ss) (shifts f (t .ctts)) (syncs f (t .stss))
     (below-values (2 ^ 32) (pairAt f (t .stts .at)) (t .stts .count) 0 (value-below f h (t .stts .at)))
     (room-place (valuesOf (groups f (t .stsc) (t .stco .count))) (chunks f (t .stco)) ss c (below-list (2 ^ 32) (sizeAt f (t .stsz)) (t .stsz .count) 0 (size-below f h (t .stsz) w)) (omega (arith, e, k)))
-    (omega (arith, e, k))
+    (omega (arith, e, k)) (omega (arith, e, k))
 
 -- WHETHER EVERY CHUNK BEGINS LOW
 

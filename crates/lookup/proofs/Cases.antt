@@ -1,8 +1,8 @@
 -- One law for each return, over plain variables. Assumes nothing.
 use Prim.Native.Nat.{ℕ, zero, suc, _+_, _-_, _*_, _^_, _≤_, _<_, min}
-use mathlib.Core.Path.{_≡_, refl, sym, ap, ap₂, _∙_}
+use mathlib.Core.Path.{_≡_, refl, sym, ap, _∙_}
 use mathlib.Core.List.{List, [], _∷_}
-use mathlib.Core.Bool.{Bool, true, false, _&&_}
+use mathlib.Core.Bool.{Bool, true, false}
 use native.Mathlib.Omega.{arith}
 use lib.ListN.{length, drop, length-drop, drop-of-length-le}
 use lib.Seq.{drop-nil}
@@ -12,6 +12,7 @@ use borrow.Author.Tests.{eq-eqb, ne-eqb, lt-ltb, le-ltb}
 use Rattle.numbers.specs.Field.{when, refusal, orZero}
 use Rattle.numbers.specs.declared.Refusal.{Refusal}
 use Rattle.signed.specs.Signed.{signed}
+use Rattle.samples.proofs.Fits as fits
 use Rattle.samples.specs.Lists.{held, located, firstOf, lookupOf, bytesOf}
 use Rattle.samples.specs.declared.Sample.{Sample}
 use Rattle.samples.specs.declared.Found.{Found}
@@ -123,32 +124,28 @@ module _ (f : List ℕ) (o : Optional) (n : ℕ) where
 
 -- ONE SAMPLE
 
-and-false : (x : Bool) → (x && false) ≡ false
-and-false true = refl
-and-false false = refl
+module _ (n : ℕ) (s : Sample) where
+  module _ (q : Refusal) (e : q ≡ refusal 9 0) where
+    over-by : held s ≡ false → found.Refused q ≡ firstOf n (s ∷ [])
+    unfolding when
+    over-by h = ap found.Refused e ∙ sym (ap (λ (b : Bool). when b (found.Is (located s)) (found.Refused (refusal 9 0))) h)
 
-module _ (n : ℕ) (s : Sample) (q : Refusal) (e : q ≡ refusal 9 0) where
-  over-by : held s ≡ false → found.Refused q ≡ firstOf n (s ∷ [])
+    pub over-end : 2 ^ 64 ≤ s .offset + s .size → found.Refused q ≡ firstOf n (s ∷ [])
+    over-end h = over-by (fits.no-end s h)
+
+    pub over-time : 2 ^ 63 ≤ s .time → found.Refused q ≡ firstOf n (s ∷ [])
+    over-time h = over-by (fits.no-time s h)
+
+  is-held : held s ≡ true → found.Is (located s) ≡ firstOf n (s ∷ [])
   unfolding when
-  over-by h = ap found.Refused e ∙ sym (ap (λ (b : Bool). when b (found.Is (located s)) (found.Refused (refusal 9 0))) h)
+  is-held h = sym (ap (λ (b : Bool). when b (found.Is (located s)) (found.Refused (refusal 9 0))) h)
 
-  pub over-end : 2 ^ 64 ≤ s .offset + s .size → found.Refused q ≡ firstOf n (s ∷ [])
-  over-end h = over-by (ap (λ (b : Bool). b && ltb (s .time) (2 ^ 63)) (le-ltb (s .offset + s .size) (2 ^ 64) h))
-
-  pub over-time : 2 ^ 63 ≤ s .time → found.Refused q ≡ firstOf n (s ∷ [])
-  over-time h = over-by (ap (λ (b : Bool). ltb (s .offset + s .size) (2 ^ 64) && b) (le-ltb (s .time) (2 ^ 63) h) ∙ and-false (ltb (s .offset + s .size) (2 ^ 64)))
-
-is-held : (n : ℕ) (s : Sample) → s .offset + s .size < 2 ^ 64 → s .time < 2 ^ 63 → found.Is (located s) ≡ firstOf n (s ∷ [])
-unfolding when
-is-held n s h g =
-    sym (ap₂ (λ (a b : Bool). when (a && b) (found.Is (located s)) (found.Refused (refusal 9 0))) (lt-ltb (s .offset + s .size) (2 ^ 64) h) (lt-ltb (s .time) (2 ^ 63) g))
-
-pub told-is : (f : List ℕ) (t : Track) (k n at z m d v : ℕ) (co : ℤ) → at + z < 2 ^ 64 → m < 2 ^ 63
+pub told-is : (f : List ℕ) (t : Track) (k n at z m d v : ℕ) (co : ℤ) → n < 2 ^ 32 → at + z < 2 ^ 64 → m < 2 ^ 63
     → v ≡ shiftAt f (t .ctts) k → co ≡ signed 4 v
     → found.Is (record { offset = at; size = z; time = m; duration = d; composition = co }) ≡ firstOf n (sampleAt f t k n at z m d ∷ [])
-told-is f t k n at z m d v co h g ev ec =
+told-is f t k n at z m d v co b h g ev ec =
     ap (λ (x : ℤ). found.Is (record { offset = at; size = z; time = m; duration = d; composition = x })) (ec ∙ ap (signed 4) ev)
-    ∙ is-held n (sampleAt f t k n at z m d) h g
+    ∙ is-held n (sampleAt f t k n at z m d) (fits.held-is (sampleAt f t k n at z m d) b h g)
 
 module _ (l : List Sample) where
   lookup-nth : (n : ℕ) → (n ≡ 0 → ⊥) → lookupOf l n ≡ firstOf n (drop (n - 1) l)

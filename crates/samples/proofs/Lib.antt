@@ -1,3 +1,4 @@
+pub mod Fits
 pub mod Complement
 pub mod Stored
 pub mod Unique

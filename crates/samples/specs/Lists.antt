@@ -11,15 +11,19 @@ use Rattle.samples.specs.declared.Located.{Located}
 use Rattle.samples.specs.declared.Found.{Found}
 use Rattle.samples.specs.declared.Found.the-variants.{Is, Refused}
 
--- a sample's end is below this, and its time below that (A13, 1 and 3): else refusal 9
+-- a sample's end is below the first of these, and its time below the second (A13, 1 and 3), else refusal 9; its number
+-- has 32 bits, which only runs can pass, and 01's limit of 65,536 samples keeps them from it
 abbrev pub endBound : ℕ
 endBound = 2 ^ 64
 
 abbrev pub timeBound : ℕ
 timeBound = 2 ^ 63
 
+abbrev pub numberBound : ℕ
+numberBound = 2 ^ 32
+
 abbrev pub held : Sample → Bool
-held s = ltb (s .offset + s .size) endBound && ltb (s .time) timeBound
+held s = ltb (s .number) numberBound && (ltb (s .offset + s .size) endBound && ltb (s .time) timeBound)
 
 -- what a list of samples shows: nothing, a sample that is not held, or its first and the rest
 pub data View : Type 0 where

@@ -46,7 +46,7 @@ sub-t29 : tie.Need-sub-t29
 sub-t29 c = search needs
 
 returns-3 : tie.Need-returns-3
-returns-3 c = takes _ (c .before .before .before .before .before .before .before .before .before .before .before .before .before .before .before .args .track) (c .before .before .before .before .before .before .before .before .before .before .before .before .before .before .before .args .lane) _ _ _ (c .before .before .before .before .before .before .before .before .before .before .before .before .before .before .before .args .times) (c .before .before .before .before .before .before .before .before .before .before .before .before .before .before .before .args .p) _ _ _ _ _ _ (omega arith) (c .before .before .before .before .before .before .before .before .before .before .before .if2 .left) (c .before .before .before .before .before .before .before .before .before .before .before .before .before .before .before .pre .0) (c .before .before .before .before .before .before .before .before .shift-next .ensures .0) (c .before .before .before .before .before .before .before .before .shift-next .ensures .1) (c .before .before .before .before .before .before .mark-ready .ensures .0) (c .before .before .before .before .before .before .mark-ready .ensures .1) (c .before .before .before .before .before .sync-at .ensures) (c .before .unless-it-is .ensures) (toZ-ofZ {w = w64} {z = c .before .before .before .before .as-signed .result} (record { sfits = c .before .before .before .before .as-signed .ok }) ∙ c .before .before .before .before .as-signed .ensures)
+returns-3 c = takes _ (c .before .before .before .before .before .before .before .before .before .before .before .before .before .before .before .args .track) (c .before .before .before .before .before .before .before .before .before .before .before .before .before .before .before .args .lane) _ _ _ (c .before .before .before .before .before .before .before .before .before .before .before .before .before .before .before .args .times) (c .before .before .before .before .before .before .before .before .before .before .before .before .before .before .before .args .p) _ _ _ _ _ _ (omega arith) (c .before .before .before .before .before .before .before .before .before .before .before .if2 .left) (c .before .before .before .before .before .before .before .before .before .before .before .before .before .before .before .pre .0) (omega arith) (c .before .before .before .before .before .before .before .before .shift-next .ensures .0) (c .before .before .before .before .before .before .before .before .shift-next .ensures .1) (c .before .before .before .before .before .before .mark-ready .ensures .0) (c .before .before .before .before .before .before .mark-ready .ensures .1) (c .before .before .before .before .before .sync-at .ensures) (c .before .unless-it-is .ensures) (toZ-ofZ {w = w64} {z = c .before .before .before .before .as-signed .result} (record { sfits = c .before .before .before .before .as-signed .ok }) ∙ c .before .before .before .before .as-signed .ensures)
 
 pub give-spec : {M : Type 1} → statement M
 give-spec =

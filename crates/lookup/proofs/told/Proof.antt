@@ -46,7 +46,7 @@ as-signed-requires : tie.Need-as-signed-requires
 as-signed-requires c κs = search needs
 
 returns-4 : tie.Need-returns-4
-returns-4 c = told-is (c .before .before .before .before .before .before .args .file .now) (c .before .before .before .before .before .before .args .track) (c .before .before .before .before .before .before .args .k) (c .before .before .before .before .before .before .args .number) _ _ _ _ _ _ (omega arith) (c .before .before .if3 .left) (c .before .shift .ensures) (toZ-ofZ {w = w64} {z = c .as-signed .result} (record { sfits = c .as-signed .ok }) ∙ c .as-signed .ensures)
+returns-4 c = told-is (c .before .before .before .before .before .before .args .file .now) (c .before .before .before .before .before .before .args .track) (c .before .before .before .before .before .before .args .k) (c .before .before .before .before .before .before .args .number) _ _ _ _ _ _ (omega arith) (omega arith) (c .before .before .if3 .left) (c .before .shift .ensures) (toZ-ofZ {w = w64} {z = c .as-signed .result} (record { sfits = c .as-signed .ok }) ∙ c .as-signed .ensures)
 
 pub told-spec : {M : Type 1} → statement M
 told-spec =
