@@ -43,5 +43,4 @@ pub(crate) fn refused(number: u32, detail: usize) {
     text(b"refused");
     next_number(number as u64);
     next_number(detail as u64);
-    text(b"\n");
 }
