@@ -48,8 +48,8 @@ module _ (z : ℤ) (h : SFits w64 z) where
     pub below-cast : T (nonNeg (toZ w64 (ofZ w64 (negsuc 0 -ℤ toZ w64 (ofZ w64 z))))) × Fits w64 (natAbs (toZ w64 (ofZ w64 (negsuc 0 -ℤ toZ w64 (ofZ w64 z)))))
     below-cast = rw back (neg-flip z e′ (h .sfits) .1, record { fits = omega (arith, neg-flip z e′ (h .sfits) .2) })
 
-    pub below-adds : Fits w64 (natAbs (toZ w64 (ofZ w64 (negsuc 0 -ℤ toZ w64 (ofZ w64 z)))) + 1)
-    below-adds = rw back (record { fits = omega (arith, neg-flip z e′ (h .sfits) .2) })
+    pub below-small : natAbs (toZ w64 (ofZ w64 (negsuc 0 -ℤ toZ w64 (ofZ w64 z)))) < 2 ^ 63
+    below-small = rw back (neg-flip z e′ (h .sfits) .2)
 
     pub below-is : natAbs (toZ w64 (ofZ w64 (negsuc 0 -ℤ toZ w64 (ofZ w64 z)))) + 1 ≡ natAbs z
     below-is = ap (λ (x : ℤ). natAbs x + 1) back ∙ flip-abs z e′

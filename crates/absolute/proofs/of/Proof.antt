@@ -1,4 +1,5 @@
-use Rattle.absolute.proofs.Signs.{below-fits, below-cast, below-adds, below-is, above-cast}
+use native.Mathlib.Omega.{arith}
+use Rattle.absolute.proofs.Signs.{below-fits, below-cast, below-small, below-is, above-cast}
 use borrow.Author.Needs.{needs}
 use Rattle.absolute.proofs.of.Statement.{statement}
 use Rattle.absolute.proofs.of.Tie as tie
@@ -10,7 +11,7 @@ cast-result : tie.Need-cast-result
 cast-result c = below-cast _ (c .before .fits .n) (c .if1 .taken)
 
 add-result : tie.Need-add-result
-add-result c = below-adds _ (c .before .fits .n) (c .if1 .taken)
+add-result c = record { fits = omega (arith, below-small _ (c .before .fits .n) (c .if1 .taken)) }
 
 returns : tie.Need-returns
 returns c = below-is _ (c .before .fits .n) (c .if1 .taken)
