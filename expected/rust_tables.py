@@ -3,7 +3,7 @@
 
 The original is asked for the offset, size, time, composition offset and sync of each sample, of sample 0 and of three
 that lie past the end, and for the count and the total of bytes. Ours are the lines of crates/list_samples for the same
-stbl. Where a sample is not there, they agree if the original says so too. Where they differ, each single difference must
+stbl: the samples of a lane, each the same by lookup, and lookups of the others. Where a sample is not there, they agree if the original says so too. Where they differ, each single difference must
 be of a class below, which has a number in docs/DIFFERENCES.md.
 
     python3 expected/rust_tables.py --pack PACK    writes the stbl boxes of the fixed list, expected/tables.txt
@@ -17,7 +17,6 @@ import tables
 
 STORED = pathlib.Path(__file__).resolve().parent / "tables.txt"
 QUESTIONS = ("offset", "size", "time", "cto", "sync")
-FAR = 4000000000
 
 
 # WHAT IS ASKED
@@ -28,7 +27,7 @@ def counts(found):
 
 
 def numbers_asked(found):
-    return [*range(max(counts(found).values()) + 3), FAR]
+    return [*range(max(counts(found).values()) + 3), tables.FAR]
 
 
 def first_samples(found):
@@ -74,33 +73,41 @@ def rust_answers(line):
 
 
 def tracks(lines):
-    """Our answer to each stbl: its lines."""
+    """Our answer to each stbl: its lines, up to the empty one."""
     track = []
     for line in lines:
         track.append(line)
-        if line.split("\t")[0] in ("refused", "end", "more"):
+        if not line:
             yield track
             track = []
 
 
 class Ours:
-    """Our samples by their numbers; `over` is the number of one that does not fit, where there is one. Those behind it
-    are not told, and so not compared."""
+    """Our samples by their numbers; `over` has those that do not fit, and whether each is sync; there is no other."""
 
-    def __init__(self, found, track):
-        assert track[0] == "track", track
-        rows = [tuple(map(int, line.split("\t"))) for line in track[1:-1]]
-        self.samples = {row[0]: row for row in rows}
-        self.over = len(rows) + 1 if track[-1] == "refused\t9\t0" else None
-        self.count = min(counts(found).values())
-
-    def untold(self, number):
-        return self.over is not None and self.over < number <= self.count
+    def __init__(self, track):
+        head, *rows = [line.split("\t") for line in track[:-1]]
+        assert head[0] == "track", track
+        self.count, self.total = int(head[1]), int(head[2])
+        self.samples, self.over = {}, {}
+        for row in rows:
+            if row[-1] == "same":
+                self.samples[int(row[0])] = list(map(int, row[1:-1]))
+            elif row[0] == "sample" and row[2] != "refused":
+                self.samples[int(row[1])] = list(map(int, row[2:-1]))
+                assert row[-1] == row[-2], track
+            elif row[0] == "sample" and row[2:4] == ["refused", "9"]:
+                self.over[int(row[1])] = row[-1] == "1"
+            elif row[0] == "sample":
+                assert row[2:] == ["refused", "11", row[1]] * 2 and not 0 < int(row[1]) <= self.count, track
+            else:
+                assert row in (["end"], ["refused", "9", "0"]), track
+        assert {*self.samples, *self.over} == {*range(1, self.count + 1)}, track
 
     def answers(self, number):
         """Our answers to the questions about a sample."""
         row = self.samples.get(number)
-        return None if row is None else dict(zip(QUESTIONS, (row[1], row[2], (row[3], row[4]), row[5], bool(row[6]))))
+        return None if row is None else dict(zip(QUESTIONS, (row[0], row[1], (row[2], row[3]), row[4], bool(row[5]))))
 
 
 # THE DIFFERENCES
@@ -135,10 +142,10 @@ def of_sample(found, ours, number, theirs):
             if told != mine[question]:
                 in_32_bits = question == "offset" and before(found)[number][1] >= 1 << 32 and told == added_in_32_bits(found, number)
                 yield question, 9 if in_32_bits else "%s of sample %d: %s and %s" % (question, number, mine[question], told)
-        elif number == ours.over:
+        elif number in ours.over and (question != "sync" or told != ours.over[number]):
             fits = answered and (question != "offset" or told == added_in_32_bits(found, number))
             yield question, 56 if fits else "%s of sample %d, which does not fit: %s" % (question, number, told)
-        elif told != "ERR":  # it is not there
+        elif number not in ours.over and told != "ERR":  # it is not there
             if number == 0:
                 yield question, 5
             elif answered and number <= counts(found).get(question, 0):
@@ -153,17 +160,13 @@ def of_sample(found, ours, number, theirs):
 
 def differences(data, track, line):
     """Every difference: the question, whether the sample is there, and its class."""
-    found, theirs = tables.tables(data), rust_answers(line)
-    ours = Ours(found, track)
+    found, ours, theirs = tables.tables(data), Ours(track), rust_answers(line)
     for number in numbers_asked(found):
-        if not ours.untold(number):
-            for question, of_class in of_sample(found, ours, number, theirs):
-                yield question, 0 < number <= ours.count, of_class
-    count = ours.count if ours.over else len(ours.samples)
-    total = sum(sample[2] for sample in (tables.samples(found) if ours.over else ours.samples.values()))
-    for question, mine in (("count", count), ("total", total)):
+        for question, of_class in of_sample(found, ours, number, theirs):
+            yield question, 0 < number <= ours.count, of_class
+    for question, mine in (("count", ours.count), ("total", ours.total)):
         if theirs[question] != mine:
-            yield question, True, 82 if count < found.count else "%s: %d and %s" % (question, mine, theirs[question])
+            yield question, True, 82 if ours.count < found.count else "%s: %d and %s" % (question, mine, theirs[question])
 
 
 def classes(data, track, line):

@@ -16,6 +16,8 @@ import sys
 import boxes
 
 MOST_SAMPLES = 65536  # of a track: the program tells no more
+BEHIND = 64  # so many are looked up behind those that are told
+FAR = 4000000000
 NEEDED = ("stts", "stsc", "stsz", "stco")
 
 
@@ -129,23 +131,50 @@ def held(sample):
     return sample[1] + sample[2] < 1 << 64 and sample[3] < 1 << 63
 
 
+def count(tables):
+    """How many samples there are, without a look at them: each table may count billions."""
+    return min(tables.count, sum(n for n, _ in tables.stts), sum(per for per, _ in zip(per_chunk(tables), tables.chunks)))
+
+
+def total(tables):
+    return tables.common * count(tables) if tables.common else sum(tables.sizes[:count(tables)])
+
+
 # THE LINES
+
+def words(*row):
+    return "\t".join(str(int(word) if isinstance(word, bool) else word) for word in row)
+
+
+def lookup(found, number):
+    """The line of one sample that is looked up."""
+    if not 0 < number <= count(found):
+        return words("sample", number, "refused", 11, number, "refused", 11, number)
+    sample = next(itertools.islice(samples(found), number - 1, None))
+    return words("sample", *(sample if held(sample) else (number, "refused", 9, 0)), sample[-1])
+
 
 def lines(data):
     try:
         found = tables(data)
     except boxes.Refused as fault:
-        yield "refused\t%d\t%d" % fault.args
+        yield words("refused", *fault.args)
+        yield ""
         return
-    yield "track"
-    told = 0
+    there = count(found)
+    yield words("track", there, total(found))
+    told, last = 0, "end"
     for sample in itertools.islice(samples(found), MOST_SAMPLES):
         if not held(sample):
-            yield "refused\t9\t0"
-            return
-        yield "\t".join(str(int(word)) for word in sample)
+            last = words("refused", 9, 0)
+            break
+        yield words(*sample, "same")
         told += 1
-    yield "more" if told == MOST_SAMPLES else "end"  # whether there are more is not looked at
+    yield "more" if told == MOST_SAMPLES else last  # whether there are more is not looked at
+    behind = range(told + 1, min(told + BEHIND, there) + 1)
+    for number in (0, *behind, *([there + 1] if there < FAR else []), FAR):
+        yield lookup(found, number)
+    yield ""
 
 
 # STBL BOXES BY CHANCE

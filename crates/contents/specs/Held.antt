@@ -4,9 +4,9 @@
 use Prim.Native.Nat.{ℕ, zero, suc, _+_, _-_, _%_, min}
 use mathlib.Core.List.{List}
 use mathlib.Core.Bool.{Bool, false, _&&_}
-use lib.ListN.{take, drop}
 use lib.Dec.{eqb, ltb}
 use Rattle.numbers.specs.Field.{when}
+use Rattle.parts.specs.Parts as parts
 use Rattle.places.specs.Kinds.{trex, tkhd, url, stsz, tfhd, trun}
 use Rattle.places.specs.Visit.{boxLimit}
 use Rattle.keys.specs.Key.{keyOf}
@@ -21,7 +21,7 @@ sampleLimit = 65536
 
 -- the bytes of box j
 abbrev pub partOf : List ℕ → Boxes → ℕ → List ℕ
-partOf s t j = take (at (t .sizes) j) (drop (at (t .starts) j) s)
+partOf s t j = parts.partOf (at (t .starts) j) (at (t .sizes) j) s
 
 -- the number of box j, and its place in the box
 abbrev pub keyAt : List ℕ → Boxes → ℕ → Key

@@ -3,7 +3,6 @@ ghost use mathlib.Core.Path.{_≡_};
 ghost use mathlib.Core.Bool.{_&&_};
 ghost use Prim.Native.Nat.{_+_, _<_, min};
 ghost use lib.Dec.{eqb, ltb};
-ghost use lib.ListN.{take, drop};
 ghost use Rattle.numbers.specs.Field.{when};
 ghost use Rattle.places.specs.Kinds.{tfhd};
 ghost use Rattle.places.specs.Visit.{boxLimit};
@@ -15,19 +14,6 @@ use places::kinds;
 
 // How many samples a track may have.
 pub const SAMPLES: u64 = 65536;
-
-// As much of the bytes from `start` on as there are.
-pub(crate) fn part(s: &[u8], start: usize, size: usize) -> &[u8]
-    ensures { λ r. ⌜ now r ≡ take size (drop start (now (s .entry))) ⌝ }
-{
-    if s.len() <= start {
-        return &s[..0];
-    }
-    if s.len() - start < size {
-        return &s[start..];
-    }
-    &s[start..start + size]
-}
 
 // The number of box j. A type is a number of four bytes; the tables have room for more.
 pub(crate) fn key_at(
@@ -46,7 +32,7 @@ pub(crate) fn key_at(
     if 0xffff_ffff < kind {
         return Key::Absent;
     }
-    keys::find(kind as u32, part(s, starts[j], sizes[j]))
+    keys::find(kind as u32, parts::part(s, starts[j], sizes[j]))
 }
 
 fn number_in(key: Key) -> u64

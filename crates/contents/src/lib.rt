@@ -48,7 +48,7 @@ fn content(
     if 0xffff_ffff < kind {
         return Judged::Fine;
     }
-    match readers::fault(kind as u32, held::part(s, starts[i], sizes[i])) {
+    match readers::fault(kind as u32, parts::part(s, starts[i], sizes[i])) {
         Judged::Fine => Judged::Fine,
         Judged::Wrong(q) => moved(starts[i], q.number, q.detail),
     }

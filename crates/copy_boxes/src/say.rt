@@ -43,28 +43,12 @@ pub(crate) fn close() {
     text(b" ]");
 }
 
-fn above_zero(n: i64) -> u64 {
-    if n < 0 {
-        return 0;
-    }
-    n as u64
-}
-
-// How far a negative number is below 0, without -n, which need not fit.
-fn below_zero(n: i64) -> u64 {
-    if n < 0 {
-        let d = -1 - n;
-        return (d as u64) + 1;
-    }
-    0
-}
-
 pub(crate) fn signed(n: i64) {
     if n < 0 {
         text(b" -");
-        io::print_decimal(STDOUT_FILENO, below_zero(n));
+        io::print_decimal(STDOUT_FILENO, absolute::of(n));
     } else {
-        number(above_zero(n));
+        number(absolute::of(n));
     }
 }
 

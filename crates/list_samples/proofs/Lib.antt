@@ -1,2 +1,1 @@
-mod Signs
 mod Sized

@@ -14,28 +14,12 @@ pub(crate) fn next_number(n: u64) {
     number(n);
 }
 
-fn above_zero(n: i64) -> u64 {
-    if n < 0 {
-        return 0;
-    }
-    n as u64
-}
-
-// How far a negative number is below 0, without -n, which need not fit.
-fn below_zero(n: i64) -> u64 {
-    if n < 0 {
-        let d = -1 - n;
-        return (d as u64) + 1;
-    }
-    0
-}
-
 pub(crate) fn next_signed(n: i64) {
     if n < 0 {
         text(b"\t-");
-        number(below_zero(n));
+        number(absolute::of(n));
     } else {
-        next_number(above_zero(n));
+        next_number(absolute::of(n));
     }
 }
 
@@ -43,5 +27,4 @@ pub(crate) fn refused(number: u32, detail: usize) {
     text(b"refused");
     next_number(number as u64);
     next_number(detail as u64);
-    text(b"\n");
 }

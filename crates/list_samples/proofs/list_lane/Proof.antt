@@ -1,7 +1,7 @@
 use Prim.Native.Nat.{_-_}
 use borrow.Author.Needs.{needs}
-use Rattle.list_samples.proofs.list_track.Statement.{statement}
-use Rattle.list_samples.proofs.list_track.Tie as tie
+use Rattle.list_samples.proofs.list_lane.Statement.{statement}
+use Rattle.list_samples.proofs.list_lane.Tie as tie
 use Rattle.lanes.proofs.next.Reads as next-reads
 use Rattle.lanes.proofs.start.Reads as start-reads
 use Rattle.list_samples.proofs.print_sample.Reads as print-sample-reads
@@ -9,16 +9,10 @@ use Rattle.list_samples.proofs.say.refused.Reads as refused-reads
 use Rattle.list_samples.proofs.say.text.Reads as text-reads
 
 abbrev Inv-loop : tie.InvT-loop
-Inv-loop file track lane₀ i₀ t8 t9 lane i = Unit {0}
+Inv-loop file track lane₀ i₀ t7 t8 t9 lane i = Unit {0}
 
 abbrev μ-loop : tie.MeasureT-loop
-μ-loop file track lane₀ i₀ t8 t9 lane i = 65536 - i
-
-slice-aggregate-text : tie.Need-slice-aggregate-text Inv-loop μ-loop
-slice-aggregate-text c = search needs
-
-text-requires : tie.Need-text-requires Inv-loop μ-loop
-text-requires c κs = search needs
+μ-loop file track lane₀ i₀ t7 t8 t9 lane i = 65536 - i
 
 start-requires : tie.Need-start-requires Inv-loop μ-loop
 start-requires c κs = search needs
@@ -32,11 +26,11 @@ next-requires c κs = search needs
 enum-told : tie.Need-enum-told Inv-loop μ-loop
 enum-told c = search needs
 
-slice-aggregate-text-2 : tie.Need-slice-aggregate-text-2 Inv-loop μ-loop
-slice-aggregate-text-2 c = search needs
+slice-aggregate-text : tie.Need-slice-aggregate-text Inv-loop μ-loop
+slice-aggregate-text c = search needs
 
-text-requires-2 : tie.Need-text-requires-2 Inv-loop μ-loop
-text-requires-2 c κs = search needs
+text-requires : tie.Need-text-requires Inv-loop μ-loop
+text-requires c κs = search needs
 
 returns : tie.Need-returns Inv-loop μ-loop
 returns c = search needs
@@ -46,6 +40,12 @@ enum-told-2 c = search needs
 
 refused-requires : tie.Need-refused-requires Inv-loop μ-loop
 refused-requires c κs = search needs
+
+slice-aggregate-text-2 : tie.Need-slice-aggregate-text-2 Inv-loop μ-loop
+slice-aggregate-text-2 c = search needs
+
+text-requires-2 : tie.Need-text-requires-2 Inv-loop μ-loop
+text-requires-2 c κs = search needs
 
 returns-2 : tie.Need-returns-2 Inv-loop μ-loop
 returns-2 c = search needs
@@ -74,23 +74,23 @@ text-requires-3 c κs = search needs
 returns-3 : tie.Need-returns-3 Inv-loop μ-loop
 returns-3 c = search needs
 
-pub list-track-spec : {M : Type 1} → statement M
-list-track-spec =
+pub list-lane-spec : {M : Type 1} → statement M
+list-lane-spec =
     tie.close
     (tie.spec
     Inv-loop
     μ-loop
-    slice-aggregate-text
-    text-requires
     start-requires
     loop-holds
     next-requires
     enum-told
-    slice-aggregate-text-2
-    text-requires-2
+    slice-aggregate-text
+    text-requires
     returns
     enum-told-2
     refused-requires
+    slice-aggregate-text-2
+    text-requires-2
     returns-2
     enum-known-sample
     print-sample-requires

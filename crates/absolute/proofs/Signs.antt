@@ -1,4 +1,4 @@
--- What the casts of a signed number ask, above 0 and below.
+-- What the casts of a signed number ask, above 0 and below, and what they give. Assumes nothing.
 use Prim.Native.Nat.{ℕ, suc, _+_, _-_, _^_, _<_}
 use mathlib.Core.Path.{_≡_, sym, ap, subst, _∙_}
 use mathlib.Core.Bool.{Bool, true, false, cond}
@@ -27,6 +27,10 @@ neg-flip : (z : ℤ) → ltZ z (pos 0) ≡ true → mag z < 2 ^ 63 → SFits w64
 neg-flip (pos n) e h = absurd (omega (arith, ltb-true n 0 e))
 neg-flip (negsuc n) e h = rw (flip n) (record { sfits = h }, tt, h)
 
+flip-abs : (z : ℤ) → ltZ z (pos 0) ≡ true → natAbs (negsuc 0 -ℤ z) + 1 ≡ natAbs z
+flip-abs (pos n) e = absurd (omega (arith, ltb-true n 0 e))
+flip-abs (negsuc n) e = ap (λ (x : ℤ). natAbs x + 1) (flip n) ∙ (let y : n + 1 ≡ suc n = omega arith in y)
+
 module _ (z : ℤ) (h : SFits w64 z) where
   round : toZ w64 (ofZ w64 z) ≡ z
   round = toZ-ofZ h
@@ -44,8 +48,11 @@ module _ (z : ℤ) (h : SFits w64 z) where
     pub below-cast : T (nonNeg (toZ w64 (ofZ w64 (negsuc 0 -ℤ toZ w64 (ofZ w64 z))))) × Fits w64 (natAbs (toZ w64 (ofZ w64 (negsuc 0 -ℤ toZ w64 (ofZ w64 z)))))
     below-cast = rw back (neg-flip z e′ (h .sfits) .1, record { fits = omega (arith, neg-flip z e′ (h .sfits) .2) })
 
-    pub below-adds : Fits w64 (natAbs (toZ w64 (ofZ w64 (negsuc 0 -ℤ toZ w64 (ofZ w64 z)))) + 1)
-    below-adds = rw back (record { fits = omega (arith, neg-flip z e′ (h .sfits) .2) })
+    pub below-small : natAbs (toZ w64 (ofZ w64 (negsuc 0 -ℤ toZ w64 (ofZ w64 z)))) < 2 ^ 63
+    below-small = rw back (neg-flip z e′ (h .sfits) .2)
+
+    pub below-is : natAbs (toZ w64 (ofZ w64 (negsuc 0 -ℤ toZ w64 (ofZ w64 z)))) + 1 ≡ natAbs z
+    below-is = ap (λ (x : ℤ). natAbs x + 1) back ∙ flip-abs z e′
 
   module _ (e : ltZ (toZ w64 (ofZ w64 z)) (pos 0) ≡ false) where
     pub above-cast : T (nonNeg (toZ w64 (ofZ w64 z))) × Fits w64 (natAbs (toZ w64 (ofZ w64 z)))

@@ -1,0 +1,3 @@
+mod Signs
+mod Vectors
+mod Unique
