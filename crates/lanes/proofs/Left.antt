@@ -6,7 +6,7 @@ use native.Mathlib.Omega.{arith}
 use lib.ListN.{length, length-drop}
 use Rattle.tables.specs.Tables.{valuesOf, pairs, groups, chunks, sizes, sizeAt, shifts, Syncs, syncs}
 use Rattle.tables.specs.Samples.{place, zipped, samplesOf}
-use Rattle.lanes.specs.Lane.{runsAt, runsLeft, placesAt, placesLeft, shiftsLeft, syncsLeft, sizesLeft, left, begun, fresh}
+use Rattle.lanes.specs.Lane.{runsAt, runsLeft, placesAt, placesLeft, shiftsLeft, marksLeft, syncsLeft, sizesLeft, left, begun, fresh}
 use Rattle.tables.specs.declared.Optional.{Optional}
 use Rattle.tables.specs.declared.Optional.the-variants.{Absent, At}
 use Rattle.tables.specs.declared.Row.{Row}
@@ -25,8 +25,8 @@ shifts-fresh : (f : List ℕ) (o : Optional) → shiftsLeft f o begun ≡ shifts
 shifts-fresh f Absent = refl
 shifts-fresh f (At t) = runs-fresh (pairs f t)
 
-syncs-fresh : (f : List ℕ) (o : Optional) → syncsLeft f o 0 ≡ syncs f o
-unfolding syncsLeft
+syncs-fresh : (f : List ℕ) (o : Optional) → syncsLeft f o (fresh .syncs) ≡ syncs f o
+unfolding syncsLeft marksLeft
 syncs-fresh f Absent = refl
 syncs-fresh f (At t) = refl
 

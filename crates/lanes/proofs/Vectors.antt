@@ -8,7 +8,7 @@ use Rattle.signed.specs.Signed.{signed}
 use Rattle.samples.specs.Lists.{view, none, over, one}
 use Rattle.tables.specs.Tables.{pairAt, groupAt, offsetAt, sizeAt, numberAt}
 use Rattle.tables.proofs.Vectors.{file, track, high}
-use Rattle.lanes.specs.Lane.{runsAt, placesAt, syncsLeft, left, fresh}
+use Rattle.lanes.specs.Lane.{runsAt, placesAt, marksLeft, syncsLeft, left, fresh}
 use Rattle.lanes.specs.declared.Lane.{Lane}
 
 -- two samples were given
@@ -18,7 +18,7 @@ after-two = record {
   time = 2000;
   times = record { next = 1; left = 1; value = 1000 };
   shifts = record { next = 2; left = 0; value = 0xffff_fffe };
-  syncs = 1;
+  syncs = record { next = 2; number = 4 };
   place = record { left = 0; at = 78; chunk = 1; groups = record { next = 1; left = 1; value = 2 } };
 }
 
@@ -28,13 +28,13 @@ after-three = record {
   time = 3000;
   times = record { next = 1; left = 0; value = 1000 };
   shifts = record { next = 2; left = 0; value = 0xffff_fffe };
-  syncs = 1;
+  syncs = record { next = 2; number = 4 };
   place = record { left = 1; at = 108; chunk = 2; groups = record { next = 1; left = 0; value = 2 } };
 }
 
 lane-third : view (left file track after-two)
     ≡ one (record { number = 3; offset = 78; size = 30; time = 2000; duration = 1000; composition = pos 0; sync = false }) (left file track after-three)
-unfolding be bytes field when signed pairAt groupAt offsetAt sizeAt numberAt left runsAt placesAt syncsLeft
+unfolding be bytes field when signed pairAt groupAt offsetAt sizeAt numberAt left runsAt placesAt marksLeft syncsLeft
 lane-third = refl
 
 abbrev after-six : Lane
@@ -43,12 +43,12 @@ after-six = record {
   time = 4500;
   times = record { next = 2; left = 0; value = 500 };
   shifts = record { next = 2; left = 0; value = 0xffff_fffe };
-  syncs = 2;
+  syncs = record { next = 2; number = 0 };
   place = record { left = 0; at = 258; chunk = 4; groups = record { next = 2; left = 0; value = 1 } };
 }
 
 lane-end : view (left file track after-six) ≡ none
-unfolding be bytes field when signed pairAt groupAt offsetAt sizeAt numberAt left runsAt placesAt syncsLeft
+unfolding be bytes field when signed pairAt groupAt offsetAt sizeAt numberAt left runsAt placesAt marksLeft syncsLeft
 lane-end = refl
 
 abbrev after-one : Lane
@@ -57,16 +57,16 @@ after-one = record {
   time = 1000;
   times = record { next = 1; left = 2; value = 1000 };
   shifts = record { next = 0; left = 0; value = 0 };
-  syncs = 0;
+  syncs = record { next = 0; number = 0 };
   place = record { left = 1; at = 0xffff_ffff_ffff_fffa; chunk = 1; groups = record { next = 1; left = 0; value = 2 } };
 }
 
 -- the first sample ends before 2^64; the second one does not
 lane-first-held : view (left file high fresh)
     ≡ one (record { number = 1; offset = 0xffff_ffff_ffff_fff0; size = 10; time = 0; duration = 1000; composition = pos 0; sync = true }) (left file high after-one)
-unfolding be bytes field when signed pairAt groupAt offsetAt sizeAt numberAt left runsAt placesAt syncsLeft
+unfolding be bytes field when signed pairAt groupAt offsetAt sizeAt numberAt left runsAt placesAt marksLeft syncsLeft
 lane-first-held = refl
 
 lane-over : view (left file high after-one) ≡ over
-unfolding be bytes field when signed pairAt groupAt offsetAt sizeAt numberAt left runsAt placesAt syncsLeft
+unfolding be bytes field when signed pairAt groupAt offsetAt sizeAt numberAt left runsAt placesAt marksLeft syncsLeft
 lane-over = refl

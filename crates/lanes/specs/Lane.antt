@@ -1,7 +1,7 @@
 -- The samples that a lane has left: the same tables, each from where the lane's cursor stands. `left-fresh`
 -- (proofs/Left.antt) says that a lane that begins has the samples of the track left. Assumes nothing.
-use Prim.Native.Nat.{ℕ, _+_}
-use mathlib.Core.List.{List, [], _++_}
+use Prim.Native.Nat.{ℕ, zero, suc, _+_}
+use mathlib.Core.List.{List, [], _∷_, _++_}
 use lib.ListN.{take, drop, replicate}
 use Rattle.tables.specs.Tables.{valuesOf, pairs, groups, chunks, sizes, Syncs, every, those, numbers}
 use Rattle.tables.specs.Samples.{starts, place, zipped}
@@ -10,6 +10,7 @@ use Rattle.tables.specs.declared.Optional.the-variants.{Absent, At}
 use Rattle.tables.specs.declared.Row.{Row}
 use Rattle.lanes.specs.declared.Runs.{Runs}
 use Rattle.lanes.specs.declared.Place.{Place}
+use Rattle.lanes.specs.declared.Marks.{Marks}
 use Rattle.tables.specs.declared.Track.{Track}
 use Rattle.samples.specs.Lists.{View, none, over, one}
 use Rattle.samples.specs.declared.Sample.{Sample}
@@ -36,9 +37,17 @@ abbrev pub shiftsLeft : List ℕ → Optional → Runs → List ℕ
 shiftsLeft f Absent c = []
 shiftsLeft f (At t) c = runsLeft (pairs f t) c
 
-unfoldable pub syncsLeft : List ℕ → Optional → ℕ → Syncs
-syncsLeft f Absent i = every
-syncsLeft f (At t) i = those (drop i (numbers f t))
+-- the sync numbers left: the one that was read and has not come, then those from entry i on
+abbrev pub marked : ℕ → List ℕ → List ℕ
+marked zero ns = ns
+marked (suc n) ns = suc n ∷ ns
+
+unfoldable pub marksLeft : List ℕ → Marks → List ℕ
+marksLeft ns m = marked (m .number) (drop (m .next) ns)
+
+unfoldable pub syncsLeft : List ℕ → Optional → Marks → Syncs
+syncsLeft f Absent m = every
+syncsLeft f (At t) m = those (marksLeft (numbers f t) m)
 
 abbrev pub sizesLeft : List ℕ → Track → Lane → List ℕ
 sizesLeft f t l = drop (l .done) (sizes f (t .stsz))
@@ -60,7 +69,7 @@ fresh = record {
   time = 0;
   times = begun;
   shifts = begun;
-  syncs = 0;
+  syncs = record { next = 0; number = 0 };
   place = record { left = 0; at = 0; chunk = 0; groups = begun };
 }
 

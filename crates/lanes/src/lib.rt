@@ -1,16 +1,16 @@
 // The samples of one track, from its tables as they lie in the file. A lane is a cursor by value: it gives one sample
 // after the other, visits each entry of each table once, and never goes back to the start of a table.
 ghost use mathlib.Core.Path.{_≡_};
-ghost use Prim.Native.Nat.{_+_, min};
-ghost use lib.ListN.{length};
-ghost use Rattle.numbers.specs.Field.{orZero};
-ghost use Rattle.signed.specs.Signed.{signed};
-ghost use Rattle.tables.specs.Tables.{sizeAt, offsetAt, chunks};
-ghost use Rattle.tables.specs.Samples.{firstOr, rest, flagOf, pastOf};
+ghost use Prim.Native.Nat.{_<_};
+ghost use lib.ListN.{drop};
+ghost use lib.Dec.{eqb};
+ghost use Rattle.numbers.specs.Field.{when};
+ghost use Rattle.tables.specs.Tables.{valuesOf, chunks};
+ghost use Rattle.tables.specs.Samples.{firstOr, rest};
+ghost use Rattle.tables.specs.Rows.{rowsOf};
 ghost use Rattle.samples.specs.Lists.{view};
 ghost use Rattle.lanes.specs.Lane.{runsLeft, shiftsLeft, syncsLeft, left, begun, fresh, shows};
-ghost use Rattle.tables.specs.Rows.{pairRows, groupRows, endAt, rowAt, rowsOf};
-ghost use Rattle.lanes.specs.Steps.{toldRuns, Steps, samplesFrom};
+ghost use Rattle.lanes.specs.Steps.{rowsAt, Ready, afterOf, SamePlaces, PlaceReady, shiftOf, MarkReady, syncOf, samplesFrom};
 use samples::Sample;
 use tables::Chunks;
 use tables::Optional;
@@ -29,12 +29,6 @@ pub struct Runs {
     pub value: u32,
 }
 
-// A value and the cursor after it, or the end of the table.
-enum RunStep {
-    Value { value: u32, rest: Runs },
-    End,
-}
-
 // A cursor over chunks: how many samples of the chunk are left, where the next one lies, the next chunk, and the
 // runs of stsc.
 pub struct Place {
@@ -44,58 +38,70 @@ pub struct Place {
     pub groups: Runs,
 }
 
-// The place of a sample, and what is left after it, but for its size.
-enum PlaceStep {
-    At(Place),
-    End,
-}
-
-// The next value where the row is used up: rows that count 0 are passed over.
-fn run_refill(file: &[u8], rows: Rows, c: Runs) -> RunStep
-    ensures { λ r. ⌜ toldRuns (rowsOf (now (file .entry)) rows) r ≡ runsLeft (rowsOf (now (file .entry)) rows) c ⌝ }
+// The first run from row `from` on that has a value left; left is 0 where there is none. Plain numbers, because this is
+// the way that is seldom taken: what a call takes by reference would be stored for every sample.
+fn run_fill(file: &[u8], at: usize, count: u32, grouped: bool, chunks: u32, from: u32) -> Runs
+    ensures same { λ r. ⌜ runsLeft (rowsOf (now (file .entry)) (rowsAt at count grouped chunks)) r ≡ valuesOf (drop from (rowsOf (now (file .entry)) (rowsAt at count grouped chunks))) ⌝ }
+    ensures ready { λ r. ⌜ Ready (rowsOf (now (file .entry)) (rowsAt at count grouped chunks)) r ⌝ }
 {
-    let mut i = c.next;
-    let mut left = c.left;
-    let mut value = c.value;
-    while left == 0 {
-        if rows.count <= i {
-            return RunStep::End;
-        }
+    let rows = Rows {
+        at: at,
+        count: count,
+        grouped: grouped,
+        chunks: chunks,
+    };
+    let mut i = from;
+    while i < count {
         let e = tables::entry(file, rows, i);
-        left = e.count;
-        value = e.value;
         i += 1;
+        if e.count != 0 {
+            return Runs {
+                next: i,
+                left: e.count,
+                value: e.value,
+            };
+        }
     }
-    RunStep::Value {
-        value: value,
-        rest: Runs {
-            next: i,
-            left: left - 1,
-            value: value,
-        },
+    Runs {
+        next: i,
+        left: 0,
+        value: 0,
     }
 }
 
-// The next value of a table of runs, and the cursor after it.
-fn run_next(file: &[u8], rows: Rows, c: Runs) -> RunStep
-    ensures { λ r. ⌜ toldRuns (rowsOf (now (file .entry)) rows) r ≡ runsLeft (rowsOf (now (file .entry)) rows) c ⌝ }
+// The cursor with a value left; left is 0 where the table ends.
+fn run_ready(file: &[u8], rows: Rows, c: Runs) -> Runs
+    ensures same { λ r. ⌜ runsLeft (rowsOf (now (file .entry)) rows) r ≡ runsLeft (rowsOf (now (file .entry)) rows) c ⌝ }
+    ensures ready { λ r. ⌜ Ready (rowsOf (now (file .entry)) rows) r ⌝ }
 {
     if c.left == 0 {
-        return run_refill(file, rows, c);
+        let f = run_fill(file, rows.at, rows.count, rows.grouped, rows.chunks, c.next);
+        return Runs {
+            next: f.next,
+            left: f.left,
+            value: f.value,
+        };
     }
-    RunStep::Value {
+    c
+}
+
+// The cursor after the value that it has.
+fn run_after(c: Runs) -> Runs
+    requires { ⌜ (c .left ≡ 0 → ⊥) ⌝ }
+    ensures { λ r. ⌜ r ≡ afterOf c ⌝ }
+{
+    Runs {
+        next: c.next,
+        left: c.left - 1,
         value: c.value,
-        rest: Runs {
-            next: c.next,
-            left: c.left - 1,
-            value: c.value,
-        },
     }
 }
 
-// The next place where the chunk is used up: chunks without samples are passed over.
-fn place_refill(file: &[u8], rows: Rows, t: Chunks, p: Place) -> PlaceStep
-    ensures { λ r. ⌜ Steps (rowsOf (now (file .entry)) rows) (chunks (now (file .entry)) t) r p ⌝ }
+// The cursor with a sample left in its chunk; left is 0 where the chunks or stsc end. Chunks without samples are passed
+// over.
+fn place_ready(file: &[u8], rows: Rows, t: Chunks, p: Place) -> Place
+    ensures same { λ r. ⌜ SamePlaces (rowsOf (now (file .entry)) rows) (chunks (now (file .entry)) t) r p ⌝ }
+    ensures ready { λ r. ⌜ PlaceReady (rowsOf (now (file .entry)) rows) (chunks (now (file .entry)) t) r ⌝ }
 {
     let mut left = p.left;
     let mut at = p.at;
@@ -103,44 +109,52 @@ fn place_refill(file: &[u8], rows: Rows, t: Chunks, p: Place) -> PlaceStep
     let mut runs = p.groups;
     while left == 0 {
         if t.count <= chunk {
-            return PlaceStep::End;
+            return Place {
+                left: 0,
+                at: at,
+                chunk: chunk,
+                groups: runs,
+            };
         }
-        let RunStep::Value { value, rest } = run_next(file, rows, runs) else {
-            return PlaceStep::End;
-        };
-        left = value;
+        let r = run_ready(file, rows, runs);
+        if r.left == 0 {
+            return Place {
+                left: 0,
+                at: at,
+                chunk: chunk,
+                groups: r,
+            };
+        }
+        left = r.value;
         at = tables::offset_at(file, t, chunk);
         chunk += 1;
-        runs = rest;
+        runs = run_after(r);
     }
-    PlaceStep::At(Place {
-        left: left - 1,
+    Place {
+        left: left,
         at: at,
         chunk: chunk,
         groups: runs,
-    })
-}
-
-// The place of the next sample, and the cursor after it but for its size.
-fn place_next(file: &[u8], rows: Rows, t: Chunks, p: Place) -> PlaceStep
-    ensures { λ r. ⌜ Steps (rowsOf (now (file .entry)) rows) (chunks (now (file .entry)) t) r p ⌝ }
-{
-    if p.left == 0 {
-        return place_refill(file, rows, t, p);
     }
-    let groups = p.groups;
-    PlaceStep::At(Place {
-        left: p.left - 1,
-        at: p.at,
-        chunk: p.chunk,
-        groups: groups,
-    })
 }
 
 // A composition offset, and the cursor after it.
 struct Shift {
     pub value: u32,
     pub rest: Runs,
+}
+
+// The offset that the cursor has, and the cursor after it; 0 where the table has ended.
+fn shift_of(c: Runs) -> Shift
+    ensures { λ r. ⌜ r ≡ shiftOf c ⌝ }
+{
+    if c.left == 0 {
+        return Shift { value: 0, rest: c };
+    }
+    Shift {
+        value: c.value,
+        rest: run_after(c),
+    }
 }
 
 // Where ctts is short, or absent, the offset is 0.
@@ -151,40 +165,61 @@ fn shift_next(file: &[u8], o: Optional, c: Runs) -> Shift
     let Optional::At(t) = o else {
         return Shift { value: 0, rest: c };
     };
-    let rows = tables::pairs(t);
-    match run_next(file, rows, c) {
-        RunStep::End => Shift { value: 0, rest: c },
-        RunStep::Value { value, rest } => Shift {
-            value: value,
-            rest: rest,
-        },
+    if c.left == 0 {
+        let f = run_fill(file, t.at, t.count, false, 0, c.next);
+        return shift_of(f);
     }
+    shift_of(c)
 }
 
-// Whether a sample is sync, and the next entry of stss.
-struct Sync {
-    pub is: bool,
+// A cursor over stss: the next entry, and the number of the one before it, until that sample has come; 0 where it has.
+pub struct Marks {
     pub next: u32,
+    pub number: u32,
 }
 
-// Whether the sample of that number is the next sync one.
-fn sync_at(file: &[u8], o: Optional, i: u32, number: u32) -> Sync
-    ensures is { λ r. ⌜ r .is ≡ flagOf (syncsLeft (now (file .entry)) o i) number ⌝ }
-    ensures rest { λ r. ⌜ syncsLeft (now (file .entry)) o (r .next) ≡ pastOf (syncsLeft (now (file .entry)) o i) number ⌝ }
+// The cursor with the next sync sample's number, where there is one. A number 0 is no sample's, and is not passed.
+fn mark_ready(file: &[u8], o: Optional, m: Marks) -> Marks
+    ensures same { λ r. ⌜ syncsLeft (now (file .entry)) o r ≡ syncsLeft (now (file .entry)) o m ⌝ }
+    ensures ready { λ r. ⌜ MarkReady (now (file .entry)) o r ⌝ }
 {
-    let Optional::At(t) = o else {
-        return Sync { is: true, next: i };
-    };
-    if i < t.count {
-        let n = words::four(file, t.at, (i as usize) * 4);
-        if n == number {
-            return Sync {
-                is: true,
-                next: i + 1,
-            };
-        }
+    if m.number != 0 {
+        return m;
     }
-    Sync { is: false, next: i }
+    let Optional::At(t) = o else {
+        return m;
+    };
+    if t.count <= m.next {
+        return m;
+    }
+    let n = words::four(file, t.at, (m.next as usize) * 4);
+    if n == 0 {
+        return m;
+    }
+    Marks {
+        next: m.next + 1,
+        number: n,
+    }
+}
+
+// Whether the sample of that number is sync, where m is ready.
+fn sync_at(o: Optional, m: Marks, number: u32) -> bool
+    ensures { λ r. ⌜ r ≡ syncOf o m number ⌝ }
+{
+    match o {
+        Optional::Absent => true,
+        Optional::At(_) => m.number == number,
+    }
+}
+
+// What is left of the number that was read, when the sample of that number has come.
+fn unless_it_is(mark: u32, number: u32) -> u32
+    ensures { λ r. ⌜ r ≡ when (eqb mark number) 0 mark ⌝ }
+{
+    if mark == number {
+        return 0;
+    }
+    mark
 }
 
 // done: how many samples were given; time: the next one's.
@@ -193,7 +228,7 @@ pub struct Lane {
     pub time: u64,
     pub times: Runs,
     pub shifts: Runs,
-    pub syncs: u32,
+    pub syncs: Marks,
     pub place: Place,
 }
 
@@ -227,7 +262,7 @@ pub fn start() -> Lane
         time: 0,
         times: times,
         shifts: shifts,
-        syncs: 0,
+        syncs: Marks { next: 0, number: 0 },
         place: Place {
             left: 0,
             at: 0,
@@ -248,6 +283,7 @@ fn give(
     times: Runs,
     p: Place,
 ) -> Taken
+    requires { ⌜ (0 < number) × (p .left ≡ 0 → ⊥) ⌝ }
     ensures { λ r. ⌜ shows (now (file .entry)) track r ≡ view (samplesFrom (now (file .entry)) track lane number size duration times p) ⌝ }
 {
     let time = lane.time;
@@ -265,7 +301,9 @@ fn give(
     let shifts = lane.shifts;
     let shift = shift_next(file, ctts, shifts);
     let stss = track.stss;
-    let sync = sync_at(file, stss, lane.syncs, number);
+    let marks = lane.syncs;
+    let ready = mark_ready(file, stss, marks);
+    let sync = sync_at(stss, ready, number);
     let composition = words::as_signed(shift.value);
     let further = shift.rest;
     let runs = p.groups;
@@ -277,16 +315,19 @@ fn give(
             time: time,
             duration: duration,
             composition: composition,
-            sync: sync.is,
+            sync: sync,
         },
         lane: Lane {
             done: number,
             time: later,
             times: times,
             shifts: further,
-            syncs: sync.next,
+            syncs: Marks {
+                next: ready.next,
+                number: unless_it_is(ready.number, number),
+            },
             place: Place {
-                left: p.left,
+                left: p.left - 1,
                 at: end,
                 chunk: p.chunk,
                 groups: runs,
@@ -308,14 +349,17 @@ pub fn next(file: &[u8], track: Track, lane: Lane) -> Taken
     let size = tables::size_at(file, sizes, done);
     let stts = track.stts;
     let times = lane.times;
-    let RunStep::Value { value, rest } = run_next(file, tables::pairs(stts), times) else {
+    let runs = run_ready(file, tables::pairs(stts), times);
+    if runs.left == 0 {
         return Taken::End;
-    };
+    }
     let chunks = track.stco;
     let stsc = track.stsc;
     let place = lane.place;
-    let PlaceStep::At(p) = place_next(file, tables::groups(stsc, chunks.count), chunks, place) else {
+    let p = place_ready(file, tables::groups(stsc, chunks.count), chunks, place);
+    if p.left == 0 {
         return Taken::End;
-    };
-    give(file, track, lane, number, size, value, rest, p)
+    }
+    let rest = run_after(runs);
+    give(file, track, lane, number, size, runs.value, rest, p)
 }

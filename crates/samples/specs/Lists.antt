@@ -7,6 +7,7 @@ use lib.ListN.{drop}
 use lib.Dec.{ltb}
 use Rattle.numbers.specs.Field.{refusal, when}
 use Rattle.samples.specs.declared.Sample.{Sample}
+use Rattle.samples.specs.declared.Located.{Located}
 use Rattle.samples.specs.declared.Found.{Found}
 use Rattle.samples.specs.declared.Found.the-variants.{Is, Refused}
 
@@ -29,10 +30,14 @@ abbrev pub view : List Sample → View
 view [] = none
 view (s ∷ l) = when (held s) (one s l) over
 
+-- what a lookup tells of a sample
+abbrev pub located : Sample → Located
+located s = record { offset = s .offset; size = s .size; time = s .time; duration = s .duration; composition = s .composition }
+
 -- the first of the samples from number k on
 abbrev pub firstOf : ℕ → List Sample → Found
 firstOf k [] = Refused (refusal 11 k)
-firstOf k (s ∷ l) = when (held s) (Is s) (Refused (refusal 9 0))
+firstOf k (s ∷ l) = when (held s) (Is (located s)) (Refused (refusal 9 0))
 
 -- the sample of that number, counted from 1: 11 with the number where there is none, 9 where it does not fit (A14)
 unfoldable pub lookupOf : List Sample → ℕ → Found

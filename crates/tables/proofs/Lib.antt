@@ -3,3 +3,4 @@ pub mod Cases
 pub mod Lengths
 pub mod Flags
 pub mod Vectors
+mod Unique

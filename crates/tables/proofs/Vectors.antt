@@ -11,6 +11,7 @@ use Rattle.signed.specs.Signed.{signed}
 use Rattle.samples.specs.declared.Sample.{Sample}
 use Rattle.tables.specs.Tables.{pairAt, groupAt, offsetAt, sizeAt, numberAt}
 use Rattle.tables.specs.Samples.{samplesOf}
+use Rattle.tables.specs.Rows.{pairRows, groupRows, endAt, rowBy, rowAt}
 use Rattle.tables.specs.declared.Optional.the-variants.{Absent, At}
 use Rattle.tables.specs.declared.Track.{Track}
 
@@ -121,3 +122,24 @@ case-high = refl
 case-cut : offsets (samplesOf (take 50 file) track) ≡ 0 ∷ 10 ∷ 0 ∷ 0 ∷ 0 ∷ 0 ∷ []
 unfolding be bytes field when signed pairAt groupAt offsetAt sizeAt numberAt
 case-cut = refl
+
+-- rows by their number: an entry of stts; stsc's first entry, chunks 1 and 2; and its last one, chunks 3 and 4
+case-row : rowAt file (pairRows (track .stts)) 1 ≡ record { count = 3; value = 500 }
+unfolding be bytes field when pairAt rowBy
+case-row = refl
+
+case-row-next : rowAt file (groupRows (track .stsc) 4) 0 ≡ record { count = 2; value = 2 }
+unfolding be bytes field when rowBy endAt
+case-row-next = refl
+
+case-row-last : rowAt file (groupRows (track .stsc) 4) 1 ≡ record { count = 2; value = 1 }
+unfolding be bytes field when rowBy endAt
+case-row-last = refl
+
+case-size : sizeAt file (track .stsz) 2 ≡ 30
+unfolding be bytes field when sizeAt
+case-size = refl
+
+case-chunk : offsetAt file (track .stco) 1 ≡ 78
+unfolding be bytes field when offsetAt
+case-chunk = refl

@@ -4,7 +4,7 @@ use Prim.Native.Nat.{ℕ, _+_}
 use mathlib.Core.List.{List, [], _∷_, _++_}
 use mathlib.Core.Bool.{Bool, true, false}
 use lib.ListN.{take, drop}
-use lib.Dec.{eqb}
+use lib.Dec.{eqb, ltb}
 use Rattle.numbers.specs.Field.{when}
 use Rattle.signed.specs.Signed.{signed}
 use Rattle.tables.specs.Tables.{valuesOf, pairs, groups, chunks, sizes, shifts, Syncs, every, those, syncs}
@@ -42,6 +42,16 @@ abbrev pub pastOf : Syncs → ℕ → Syncs
 pastOf every n = every
 pastOf (those []) n = those []
 pastOf (those (x ∷ l)) n = those (when (eqb x n) l (x ∷ l))
+
+-- n is in the list, as far as the list rises from x on
+abbrev pub risen : ℕ → List ℕ → ℕ → Bool
+risen x [] n = false
+risen x (y ∷ l) n = when (ltb x y) (when (eqb y n) true (risen y l n)) false
+
+-- whether sample n is sync, with nothing gone before: `sync-is` (proofs/Flags.antt) says it of every sample of a track
+abbrev pub syncAt : Syncs → ℕ → Bool
+syncAt every n = true
+syncAt (those l) n = risen 0 l n
 
 -- the samples of these sizes, durations, places, composition offsets and sync numbers, as many as the sizes, durations
 -- and places all have (A14): n came before, and the first is at time m. A composition offset that is not there is 0

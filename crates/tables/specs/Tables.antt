@@ -22,6 +22,11 @@ listFrom g (suc n) i = g i ∷ listFrom g n (suc i)
 abbrev pub listed : {A : Type 0} → (ℕ → A) → ℕ → List A
 listed g n = listFrom g n 0
 
+-- the numbers of a list together
+abbrev pub sum : List ℕ → ℕ
+sum [] = 0
+sum (n ∷ ns) = n + sum ns
+
 -- RUNS: so many of one value, a row
 
 -- each value as often as its row counts; a row that counts 0 has none (A53)

@@ -1,12 +1,13 @@
 -- The laws of numbers in the file: the position that is looked at, and the signed number that 32 bits stand for.
 -- Assumes nothing.
-use mathlib.Core.Path.{_≡_, refl, sym, ap, _∙_}
+use mathlib.Core.Path.{_≡_, refl, sym, ap, ap₂, _∙_}
 use mathlib.Core.List.{List}
 use mathlib.Core.Bool.{cond}
-use Prim.Native.Nat.{ℕ, zero, suc, _+_, _-_, _*_, _^_, _≤_, _<_, min}
+use Prim.Native.Nat.{ℕ, zero, suc, _+_, _-_, _*_, _^_, _≤_, _<_}
 use native.Mathlib.Nat.{add-zero, sub-zero}
 use native.Mathlib.Omega.{arith}
-use lib.ListN.{length}
+use lib.ListN.{length, take, drop, length-drop}
+use lib.Seq.{take-all, getD-drop}
 use lib.IntN.{ℤ, pos, negsuc, subℕ, _-ℤ_}
 use mir.Syntax.{w64}
 use mir.Val.{SFits, toZ, ofZ}
@@ -18,16 +19,32 @@ use Rattle.numbers.specs.declared.Refusal.{Refusal}
 use Rattle.numbers.proofs.Chain.{Reader, there, lacks, whole, ends, is-lt, not-lt}
 use Rattle.signed.specs.Signed.{signed}
 
--- a number is looked for at r, the position or the file's end
-module _ {U : Type 0} (b : Reader U) (w : ℕ) (f : List ℕ) (at past r : ℕ) (u : U) (h : 0 < w) (er : r ≡ min (at + past) (length f)) (e : u ≡ field (b .refused) w f r (b .is)) where
-  pub word-is : (n : ℕ) → u ≡ b .is n → n ≡ orZero w f (at + past)
-  word-is n g =
-      let t = there b w f r u e n g in
-      let s : r ≡ at + past = omega (arith, t .0, er, h) in
-      whole w f (at + past) (λ q. 0) (λ k. k) n n (omega (arith, t .0, s)) (t .1 ∙ ap (be w f) s) refl
+-- a number is the same in the part of the file from `at` on
+be-drop : (w s : ℕ) (b : List ℕ) (at : ℕ) → be w (drop s b) at ≡ be w b (s + at)
+unfolding be
+be-drop zero s b at = refl
+be-drop (suc w) s b at =
+    ap₂ (λ (x y : ℕ). x * 256 ^ w + y) (getD-drop s b at 0) (be-drop w s b (suc at) ∙ ap (be w b) (let e : s + suc at ≡ suc (s + at) = omega arith in e))
 
-  pub word-not : (q : Refusal) → u ≡ b .refused q → 0 ≡ orZero w f (at + past)
-  word-not q g = ends w f (at + past) (λ q. 0) (λ k. k) 0 (omega (arith, lacks b w f r u e q g, er)) refl
+module _ (w : ℕ) (f : List ℕ) (at past : ℕ) where
+  pub word-past : 0 < w → length f < at → 0 ≡ orZero w f (at + past)
+  word-past h k = ends w f (at + past) (λ q. 0) (λ k. k) 0 (omega arith) refl
+
+  module _ {U : Type 0} (b : Reader U) (u : U) (p : List ℕ) (h : at ≤ length f) (ep : p ≡ take (length f - at) (drop at f))
+      (e : u ≡ field (b .refused) w p past (b .is)) where
+    part : p ≡ drop at f
+    part = ep ∙ take-all (length f - at) (drop at f) (omega (arith, length-drop at f))
+
+    long : length p ≡ length f - at
+    long = ap length part ∙ length-drop at f
+
+    pub word-is : (n : ℕ) → u ≡ b .is n → n ≡ orZero w f (at + past)
+    word-is n g =
+        let t = there b w p past u e n g in
+        whole w f (at + past) (λ q. 0) (λ k. k) n n (omega (arith, t .0, long)) (t .1 ∙ ap (λ (l : List ℕ). be w l past) part ∙ be-drop w at f past) refl
+
+    pub word-not : (q : Refusal) → u ≡ b .refused q → 0 ≡ orZero w f (at + past)
+    word-not q g = ends w f (at + past) (λ q. 0) (λ k. k) 0 (omega (arith, lacks b w p past u e q g, long)) refl
 
 -- SIGNED
 

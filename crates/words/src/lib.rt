@@ -1,30 +1,19 @@
 // Numbers that lie in a file, wherever a table says: a number that the file does not hold whole is 0.
 ghost use mathlib.Core.Path.{_≡_};
-ghost use Prim.Native.Nat.{_+_, min};
-ghost use lib.ListN.{length};
+ghost use Prim.Native.Nat.{_+_};
 ghost use Rattle.numbers.specs.Field.{orZero};
 ghost use Rattle.signed.specs.Signed.{signed};
 use numbers::U32;
 use numbers::U64;
 
-// The position `past` bytes behind `at`, or the file's end where it is not before that: no sum passes 64 bits.
-fn spot(file: &[u8], at: usize, past: usize) -> usize
-    ensures { λ r. ⌜ r ≡ min (at + past) (length (now (file .entry))) ⌝ }
-{
-    if file.len() < at {
-        return file.len();
-    }
-    if file.len() - at < past {
-        return file.len();
-    }
-    at + past
-}
-
 // The number in 4 bytes, `past` bytes behind `at`, or 0 where they are not all in the file.
 pub fn four(file: &[u8], at: usize, past: usize) -> u32
     ensures { λ r. ⌜ r ≡ orZero 4 (now (file .entry)) (at + past) ⌝ }
 {
-    match numbers::u32_at(file, spot(file, at, past)) {
+    if file.len() < at {
+        return 0;
+    }
+    match numbers::u32_at(&file[at..], past) {
         U32::Is(n) => n,
         U32::Refused(_) => 0,
     }
@@ -34,7 +23,10 @@ pub fn four(file: &[u8], at: usize, past: usize) -> u32
 pub fn eight(file: &[u8], at: usize, past: usize) -> u64
     ensures { λ r. ⌜ r ≡ orZero 8 (now (file .entry)) (at + past) ⌝ }
 {
-    match numbers::u64_at(file, spot(file, at, past)) {
+    if file.len() < at {
+        return 0;
+    }
+    match numbers::u64_at(&file[at..], past) {
         U64::Is(n) => n,
         U64::Refused(_) => 0,
     }

@@ -1,7 +1,10 @@
-use Rattle.lanes.proofs.Cases.{shift-none, shift-one}
+use mathlib.Core.Path.{refl}
+use Rattle.lanes.proofs.Cases.{shift-from, shift-filled}
 use borrow.Author.Needs.{needs}
 use Rattle.lanes.proofs.shift_next.Statement.{statement}
 use Rattle.lanes.proofs.shift_next.Tie as tie
+use Rattle.lanes.proofs.run_fill.Reads as run-fill-reads
+use Rattle.lanes.proofs.shift_of.Reads as shift-of-reads
 
 enum-known-o : tie.Need-enum-known-o
 enum-known-o c = search needs
@@ -12,23 +15,20 @@ enum-told c = search needs
 returns : tie.Need-returns
 returns c = search needs
 
-pairs-requires : tie.Need-pairs-requires
-pairs-requires c κs = search needs
+run-fill-requires : tie.Need-run-fill-requires
+run-fill-requires c κs = search needs
 
-run-next-requires : tie.Need-run-next-requires
-run-next-requires c κs = search needs
-
-enum-told-2 : tie.Need-enum-told-2
-enum-told-2 c = search needs
-
-enum-known-value : tie.Need-enum-known-value
-enum-known-value c = search needs
+shift-of-requires : tie.Need-shift-of-requires
+shift-of-requires c κs = search needs
 
 returns-2 : tie.Need-returns-2
-returns-2 c = shift-none _ (c .before .before .before .before .before .before .before .before .args .o) _ _ (c .before .before .before .before .before .o .given .1) _ _ (c .before .before .before .pairs .ensures) (c .before .before .run-next .ensures) (c .enum-told2 .given .1)
+returns-2 c = shift-filled _ _ _ (c .before .before .before .before .before .o .given .1) _ _ _ (c .shift-of .ensures) (c .before .before .if1 .taken) (c .before .run-fill .ensures .0) (c .before .run-fill .ensures .1)
+
+shift-of-requires-2 : tie.Need-shift-of-requires-2
+shift-of-requires-2 c κs = search needs
 
 returns-3 : tie.Need-returns-3
-returns-3 c = shift-one _ (c .before .before .before .before .before .before .before .before .before .args .o) _ _ (c .before .before .before .before .before .before .o .given .1) _ _ (c .before .before .before .before .pairs .ensures) (c .before .before .before .run-next .ensures) _ _ (c .before .value .given .1)
+returns-3 c = shift-from _ _ _ (c .before .before .before .before .o .given .1) _ _ _ (c .shift-of2 .ensures) (λ z. absurd ((c .before .if1 .left) z)) refl
 
 pub shift-next-spec : {M : Type 1} → statement M
 shift-next-spec =
@@ -37,9 +37,8 @@ shift-next-spec =
     enum-known-o
     enum-told
     returns
-    pairs-requires
-    run-next-requires
-    enum-told-2
-    enum-known-value
+    run-fill-requires
+    shift-of-requires
     returns-2
+    shift-of-requires-2
     returns-3)

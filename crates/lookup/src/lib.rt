@@ -1,0 +1,220 @@
+// One sample of a track by its number, how many there are, and the bytes of all: from the tables as they lie in the
+// file, entries passed over whole. The sizes of one chunk are all that is visited sample by sample.
+ghost use mathlib.Core.Path.{_≡_};
+ghost use mathlib.Core.List.{[], _∷_};
+ghost use Prim.Native.Nat.{_+_, min};
+ghost use lib.ListN.{length, take};
+ghost use lib.Dec.{leb};
+ghost use Rattle.numbers.specs.Field.{refusal};
+ghost use Rattle.samples.specs.Lists.{firstOf, lookupOf, bytesOf};
+ghost use Rattle.tables.specs.Tables.{sum, valuesOf, pairs, groups, syncs};
+ghost use Rattle.tables.specs.Samples.{syncAt, samplesOf};
+ghost use Rattle.lookup.specs.Lookup.{syncOf, shiftAt, sampleAt};
+use numbers::Refusal;
+use samples::Found;
+use samples::Located;
+use seek::Spot;
+use seek::Value;
+use tables::Optional;
+use tables::Sizes;
+use tables::Table;
+use tables::Track;
+
+// The last position that a sample may end at, and the first time that none has (9).
+const LAST: u64 = 0xFFFF_FFFF_FFFF_FFFF;
+
+const TIME_BOUND: u64 = 0x8000_0000_0000_0000;
+
+// Whether a sample is sync, or the refusal.
+pub enum Synced {
+    Is(bool),
+    Refused(Refusal),
+}
+
+// How many of so many samples have a duration.
+fn timed(file: &[u8], stts: Table, bound: u32) -> u32
+    ensures { λ r. ⌜ r ≡ min bound (length (valuesOf (pairs (now (file .entry)) stts))) ⌝ }
+{
+    if bound == 0 {
+        return 0;
+    }
+    match seek::value_at(file, tables::pairs(stts), bound - 1) {
+        Value::At { value: _, sum: _ } => bound,
+        Value::Few(n) => n,
+    }
+}
+
+// How many of so many samples lie in a chunk.
+fn placed(file: &[u8], stsc: Table, chunks: u32, bound: u32) -> u32
+    ensures { λ r. ⌜ r ≡ min bound (sum (take chunks (valuesOf (groups (now (file .entry)) stsc chunks)))) ⌝ }
+{
+    if bound == 0 {
+        return 0;
+    }
+    match seek::chunk_at(file, tables::groups(stsc, chunks), bound - 1) {
+        Spot::At {
+            chunk: _,
+            within: _,
+        } => bound,
+        Spot::Few(n) => n,
+    }
+}
+
+// How many samples a track has: as many as have a size, a duration and a place.
+pub fn count(file: &[u8], track: Track) -> u32
+    ensures { λ r. ⌜ r ≡ length (samplesOf (now (file .entry)) track) ⌝ }
+{
+    let sizes = track.stsz;
+    let stts = track.stts;
+    let stsc = track.stsc;
+    let chunks = track.stco;
+    placed(file, stsc, chunks.count, timed(file, stts, sizes.count))
+}
+
+// The bytes of all samples of a track.
+pub fn total(file: &[u8], track: Track) -> u64
+    ensures { λ r. ⌜ r ≡ bytesOf (samplesOf (now (file .entry)) track) ⌝ }
+{
+    let sizes = track.stsz;
+    seek::span(file, sizes, 0, count(file, track))
+}
+
+// The composition offset of sample k, counted from 0: 0 where ctts is short, or absent.
+fn shift(file: &[u8], ctts: Optional, k: u32) -> u32
+    ensures { λ r. ⌜ r ≡ shiftAt (now (file .entry)) ctts k ⌝ }
+{
+    let Optional::At(t) = ctts else {
+        return 0;
+    };
+    match seek::value_at(file, tables::pairs(t), k) {
+        Value::At { value, sum: _ } => value,
+        Value::Few(_) => 0,
+    }
+}
+
+// Whether the sample of that number is sync: all are where there is no stss.
+fn flag(file: &[u8], stss: Optional, number: u32) -> bool
+    ensures { λ r. ⌜ r ≡ syncAt (syncs (now (file .entry)) stss) number ⌝ }
+{
+    let Optional::At(t) = stss else {
+        return true;
+    };
+    let mut last = 0;
+    let mut i = 0;
+    while i < t.count {
+        let n = words::four(file, t.at, (i as usize) * 4);
+        if n <= last {
+            return false;
+        }
+        if n == number {
+            return true;
+        }
+        last = n;
+        i += 1;
+    }
+    false
+}
+
+// The refusal of a number that no sample has.
+fn absent(number: u32) -> Refusal
+    ensures { λ r. ⌜ r ≡ refusal 11 number ⌝ }
+{
+    Refusal {
+        number: 11,
+        detail: number as usize,
+    }
+}
+
+// The refusal of a sample that does not fit.
+fn over() -> Refusal
+    ensures { λ r. ⌜ r ≡ refusal 9 0 ⌝ }
+{
+    Refusal {
+        number: 9,
+        detail: 0,
+    }
+}
+
+// Sample k, counted from 0: its chunk begins at `first`, and `gone` bytes of it come before.
+fn told(
+    file: &[u8],
+    track: Track,
+    k: u32,
+    number: u32,
+    first: u64,
+    gone: u64,
+    size: u32,
+    time: u64,
+    duration: u32,
+) -> Found
+    ensures { λ r. ⌜ r ≡ firstOf number (sampleAt (now (file .entry)) track k number (first + gone) size time duration ∷ []) ⌝ }
+{
+    if LAST - first < gone {
+        return Found::Refused(over());
+    }
+    let at = first + gone;
+    if LAST - at < (size as u64) {
+        return Found::Refused(over());
+    }
+    if TIME_BOUND <= time {
+        return Found::Refused(over());
+    }
+    let ctts = track.ctts;
+    let composition = words::as_signed(shift(file, ctts, k));
+    Found::Is(Located {
+        offset: at,
+        size: size,
+        time: time,
+        duration: duration,
+        composition: composition,
+    })
+}
+
+// Whether stsz does not count sample k, counted from 0: a common size reaches no further.
+fn uncounted(t: Sizes, k: u32) -> bool
+    ensures { λ r. ⌜ r ≡ leb (t .count) k ⌝ }
+{
+    t.count <= k
+}
+
+// The sample of that number, counted from 1; 11 where there is none, 9 where it does not fit.
+pub fn sample(file: &[u8], track: Track, number: u32) -> Found
+    ensures { λ r. ⌜ r ≡ lookupOf (samplesOf (now (file .entry)) track) number ⌝ }
+{
+    if number == 0 {
+        return Found::Refused(absent(number));
+    }
+    let k = number - 1;
+    let sizes = track.stsz;
+    if uncounted(sizes, k) {
+        return Found::Refused(absent(number));
+    }
+    let size = tables::size_at(file, sizes, k);
+    let stts = track.stts;
+    let Value::At { value, sum } = seek::value_at(file, tables::pairs(stts), k) else {
+        return Found::Refused(absent(number));
+    };
+    let stsc = track.stsc;
+    let chunks = track.stco;
+    let Spot::At { chunk, within } = seek::chunk_at(file, tables::groups(stsc, chunks.count), k)
+    else {
+        return Found::Refused(absent(number));
+    };
+    let first = tables::offset_at(file, chunks, chunk);
+    let gone = seek::span(file, sizes, k - within, k);
+    told(file, track, k, number, first, gone, size, sum, value)
+}
+
+// Whether the sample of that number is sync; 11 where there is none.
+pub fn is_sync(file: &[u8], track: Track, number: u32) -> Synced
+    ensures { λ r. ⌜ r ≡ syncOf (samplesOf (now (file .entry)) track) number ⌝ }
+{
+    if number == 0 {
+        return Synced::Refused(absent(number));
+    }
+    if count(file, track) < number {
+        return Synced::Refused(absent(number));
+    }
+    let stss = track.stss;
+    Synced::Is(flag(file, stss, number))
+}

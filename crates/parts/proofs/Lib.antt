@@ -1,0 +1,3 @@
+mod Ends
+mod Vectors
+mod Unique

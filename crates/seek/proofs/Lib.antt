@@ -1,0 +1,5 @@
+pub mod Sums
+pub mod Walk
+pub mod Spans
+mod Vectors
+mod Unique

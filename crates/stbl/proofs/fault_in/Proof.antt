@@ -1,0 +1,26 @@
+use Rattle.stbl.specs.Stbl as stbl
+use mathlib.Core.Path.{sym, ap}
+use borrow.Author.Needs.{needs}
+use Rattle.stbl.proofs.fault_in.Statement.{statement}
+use Rattle.stbl.proofs.fault_in.Tie as tie
+
+enum-told : tie.Need-enum-told
+enum-told c = search needs
+
+enum-told-2 : tie.Need-enum-told-2
+enum-told-2 c = search needs
+
+enum-known-r : tie.Need-enum-known-r
+enum-known-r c = search needs
+
+returns : tie.Need-returns
+returns c = search needs
+
+returns-2 : tie.Need-returns-2
+returns-2 c = search needs
+
+returns-3 : tie.Need-returns-3
+returns-3 c = sym (ap stbl.faultIn (c .before .r .given .1))
+
+pub fault-in-spec : {M : Type 1} → statement M
+fault-in-spec = tie.close (tie.spec enum-told enum-told-2 enum-known-r returns returns-2 returns-3)
