@@ -7,10 +7,11 @@ use native.Mathlib.Omega.{arith}
 use lib.ListN.{length, drop}
 use lib.Seq.{drop-nil, drop-append-add}
 use lib.Dec.{eqb, ltb}
+use lib.IntN.{ℤ}
 use borrow.Author.Tests.{lt-ltb, ltb-true, ltb-false}
 use Rattle.numbers.specs.Field.{refusal, when}
 use Rattle.numbers.proofs.Chain.{is-lt, not-lt, by-true, by-false}
-use Rattle.samples.specs.Lists.{held, one, firstOf, lookupOf}
+use Rattle.samples.specs.Lists.{held, located, firstOf, lookupOf}
 use Rattle.samples.specs.declared.Sample.{Sample}
 use Rattle.samples.specs.declared.Found.{Found}
 use Rattle.runs.specs.Samples.{runSamples}
@@ -138,10 +139,12 @@ module _ (f : List ℕ) (rs : List Run) (t m : ℕ) where
       pub place-end : s ≡ taken.End → found.Refused (refusal 11 m) ≡ lookupOf (samplesOfRuns f rs t) m
       place-end q = sym (ap (firstOf m) (shown-none (drop j (runSamples f r b)) (sym (ap (run.shows f r) q) ∙ es))) ∙ here
 
-      pub place-one : (x : Sample) (l : Lane) → s ≡ taken.One x l → found.Is x ≡ lookupOf (samplesOfRuns f rs t) m
-      place-one x l q =
+      pub place-one : (x : Sample) (l : Lane) (c : ℤ) → s ≡ taken.One x l → c ≡ x .composition
+          → found.Is (record { offset = x .offset; size = x .size; time = x .time; duration = x .duration; composition = c }) ≡ lookupOf (samplesOfRuns f rs t) m
+      place-one x l c q ec =
           let v = shown-one x (run.left f r l) (drop j (runSamples f r b)) (sym (ap (run.shows f r) q) ∙ es) in
-          by-true (found.Is x) (found.Refused (refusal 9 0)) _ _ (fits-held x (v .1)) refl ∙ sym (ap (firstOf m) (v .0)) ∙ here
+          ap (λ (z : ℤ). found.Is (record { offset = x .offset; size = x .size; time = x .time; duration = x .duration; composition = z })) ec
+          ∙ by-true (found.Is (located x)) (found.Refused (refusal 9 0)) _ _ (fits-held x (v .1)) refl ∙ sym (ap (firstOf m) (v .0)) ∙ here
 
       pub place-over : m < 2 ^ 32 → s ≡ taken.Over → found.Refused (refusal 9 0) ≡ lookupOf (samplesOfRuns f rs t) m
       place-over k q =
@@ -150,4 +153,4 @@ module _ (f : List ℕ) (rs : List Run) (t m : ℕ) where
           let c : b + j ≡ 0 + (m - 1) = earlier t 0 (m - 1) rs r b j (sym e ∙ g) in
           let w : v .head .number < 2 ^ 32 = omega (arith, n, c, k) in
           let y : held (v .head) ≡ false = sym (ap (λ (a : Bool). a && held (v .head)) (lt-ltb (v .head .number) (2 ^ 32) w)) ∙ v .not-fit in
-          by-false (found.Is (v .head)) (found.Refused (refusal 9 0)) _ _ y refl ∙ sym (ap (firstOf m) (v .is)) ∙ here
+          by-false (found.Is (located (v .head))) (found.Refused (refusal 9 0)) _ _ y refl ∙ sym (ap (firstOf m) (v .is)) ∙ here

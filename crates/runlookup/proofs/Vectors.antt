@@ -1,13 +1,12 @@
 -- Worked examples of the definitions, computed on the table of fragments' own examples. Assumes nothing.
 use Prim.Native.Nat.{ℕ}
 use mathlib.Core.Path.{_≡_, refl}
-use mathlib.Core.Bool.{true}
 use lib.IntN.{pos}
 use Rattle.numbers.specs.Number.{be, bytes}
 use Rattle.numbers.specs.Field.{refusal, field, when}
 use Rattle.signed.specs.Signed.{signed}
 use Rattle.trun.specs.Trun.{optional}
-use Rattle.samples.specs.Lists.{lookupOf}
+use Rattle.samples.specs.Lists.{bytesOf, lookupOf}
 use Rattle.samples.specs.declared.Found.{Found}
 use Rattle.samples.specs.declared.Found.the-variants.{Is, Refused}
 use Rattle.runs.specs.Values.{ownOf, durationAt, sizeAt, flagsBy}
@@ -23,6 +22,11 @@ counts : counted (countIn 1 (rowsOf table 4)) ≡ tally.Is 3
 unfolding when rowAt countOf
 counts = refl
 
+-- 10, 20 and 40 bytes
+bytes-of-all : counted (bytesOf (samplesOfRuns file (rowsOf table 4) 1)) ≡ tally.Is 70
+unfolding be bytes field when optional signed ownOf durationAt sizeAt flagsBy sampleAt runSamples rowAt countOf mine
+bytes-of-all = refl
+
 -- a count of more than 64 bits
 too-many : counted 0x1_0000_0000_0000_0000 ≡ tally.Over
 unfolding when
@@ -32,7 +36,7 @@ abbrev of-1 : ℕ → Found
 of-1 n = lookupOf (samplesOfRuns file (rowsOf table 4) 1) n
 
 -- the third sample is the first of the track's last run
-third : of-1 3 ≡ Is (record { number = 3; offset = 200; size = 40; time = 15000; duration = 3000; composition = pos 0; sync = true })
+third : of-1 3 ≡ Is (record { offset = 200; size = 40; time = 15000; duration = 3000; composition = pos 0 })
 unfolding be bytes field when optional signed ownOf durationAt sizeAt flagsBy sampleAt runSamples rowAt countOf mine lookupOf
 third = refl
 

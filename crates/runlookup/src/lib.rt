@@ -1,20 +1,23 @@
-// How many samples a track of a fragmented file has, and one of them by its number: the rows are walked by their counts,
-// then the samples of one run.
+// How many samples a track of a fragmented file has, their bytes, and one of them by its number: the rows are walked by
+// their counts, then the samples of one run.
 ghost use mathlib.Core.Path.{_≡_};
+ghost use Prim.Native.Nat.{_+_};
 ghost use lib.ListN.{drop};
-ghost use Rattle.samples.specs.Lists.{lookupOf};
-ghost use Rattle.runs.specs.Samples.{runSamples};
+ghost use Rattle.samples.specs.Lists.{bytesOf, lookupOf};
+ghost use Rattle.runs.specs.Samples.{runSamples, endBy};
 ghost use Rattle.runs.specs.Lane as inner;
 ghost use Rattle.runtable.specs.Table.{rowsOf};
 ghost use Rattle.fragments.specs.Samples.{countOf, countIn, samplesOfRuns};
-ghost use Rattle.runlookup.specs.Lookup.{counted, placeIn};
+ghost use Rattle.runlookup.specs.Lookup.{counted, bytesOfRun, placeIn};
 use numbers::Refusal;
+use runs::DataEnd;
 use runs::Run;
 use samples::Found;
+use samples::Located;
 
 const LAST: u64 = 0xFFFF_FFFF_FFFF_FFFF;
 
-// A number of samples, or that it passes 2^64 - 1.
+// A number of samples or of bytes, or that it passes 2^64 - 1.
 pub enum Tally {
     Is(u64),
     Over,
@@ -35,17 +38,46 @@ fn count_of(run: Run, track: u32) -> u32
 pub fn count(table: &[u64], n: usize, track: u32) -> Tally
     ensures { λ r. ⌜ r ≡ counted (countIn track (rowsOf (now (table .entry)) n)) ⌝ }
 {
+    let mut many = 0;
+    let mut i = 0;
+    while i < n {
+        let runtable::Found::Is(run) = runtable::row(table, i) else {
+            return Tally::Is(many);
+        };
+        let more = count_of(run, track) as u64;
+        if LAST - many < more {
+            return Tally::Over;
+        }
+        many += more;
+        i += 1;
+    }
+    Tally::Is(many)
+}
+
+// What follows a position and the sizes of the track's samples in a run.
+fn bytes_after(file: &[u8], run: Run, track: u32, from: u64) -> DataEnd
+    ensures { λ r. ⌜ r ≡ endBy (from + bytesOfRun (now (file .entry)) track run) ⌝ }
+{
+    if track == run.track {
+        return runs::reach(file, run, from);
+    }
+    DataEnd::At(from)
+}
+
+// The bytes of all samples of the track in the first n rows of the table.
+pub fn total(file: &[u8], table: &[u64], n: usize, track: u32) -> Tally
+    ensures { λ r. ⌜ r ≡ counted (bytesOf (samplesOfRuns (now (file .entry)) (rowsOf (now (table .entry)) n) track)) ⌝ }
+{
     let mut sum = 0;
     let mut i = 0;
     while i < n {
         let runtable::Found::Is(run) = runtable::row(table, i) else {
             return Tally::Is(sum);
         };
-        let more = count_of(run, track) as u64;
-        if LAST - sum < more {
+        let DataEnd::At(further) = bytes_after(file, run, track, sum) else {
             return Tally::Over;
-        }
-        sum += more;
+        };
+        sum = further;
         i += 1;
     }
     Tally::Is(sum)
@@ -132,7 +164,13 @@ pub fn sample(file: &[u8], table: &[u64], n: usize, track: u32, number: u32) -> 
             earlier,
             index,
         } => match nth(file, run, earlier, index) {
-            runs::Taken::One { sample, lane } => Found::Is(sample),
+            runs::Taken::One { sample, lane } => Found::Is(Located {
+                offset: sample.offset,
+                size: sample.size,
+                time: sample.time,
+                duration: sample.duration,
+                composition: sample.composition,
+            }),
             runs::Taken::Over => Found::Refused(Refusal {
                 number: 9,
                 detail: 0,

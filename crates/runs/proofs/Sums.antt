@@ -9,7 +9,7 @@ use Rattle.numbers.proofs.Chain.{is-lt, not-lt, by-false}
 use Rattle.layout.specs.Rule.{isSet}
 use Rattle.trun.specs.Trun.{sizeBit}
 use Rattle.runs.specs.Values.{ownOf, sizeAt}
-use Rattle.runs.specs.Samples.{sumFrom, endAt, endBy}
+use Rattle.runs.specs.Samples.{sumFrom, bytesIn, endBy}
 use Rattle.runs.specs.declared.Run.{Run}
 use Rattle.runs.specs.declared.DataEnd.the-variants.{At, Over}
 
@@ -40,7 +40,7 @@ module _ (n : ℕ) where
 
 module _ (f : List ℕ) (r : Run) where
   -- a default size, as often as there are samples
-  pub end-same : isSet (r .trun .flags) sizeBit ≡ false → r .start + r .trun .«sample_count» * r .size ≡ endAt f r
-  unfolding endAt sizeAt
-  end-same e =
-      sym (ap (λ (k : ℕ). r .start + k) (sum-same (sizeAt f r) (r .size) (λ i. sym (by-false (ownOf f r i .size) (r .size) (r .size) _ e refl)) (r .trun .«sample_count») 0))
+  pub bytes-same : isSet (r .trun .flags) sizeBit ≡ false → r .trun .«sample_count» * r .size ≡ bytesIn f r
+  unfolding bytesIn sizeAt
+  bytes-same e =
+      sym (sum-same (sizeAt f r) (r .size) (λ i. sym (by-false (ownOf f r i .size) (r .size) (r .size) _ e refl)) (r .trun .«sample_count») 0)

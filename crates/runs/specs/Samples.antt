@@ -38,9 +38,12 @@ abbrev pub sumFrom : (ℕ → ℕ) → ℕ → ℕ → ℕ
 sumFrom g zero i = 0
 sumFrom g (suc k) i = g i + sumFrom g k (i + 1)
 
--- the end of a run's data
-unfoldable pub endAt : List ℕ → Run → ℕ
-endAt f r = r .start + sumFrom (sizeAt f r) (r .trun .«sample_count») 0
+-- the bytes of a run's samples, and the end of its data
+unfoldable pub bytesIn : List ℕ → Run → ℕ
+bytesIn f r = sumFrom (sizeAt f r) (r .trun .«sample_count») 0
+
+abbrev pub endAt : List ℕ → Run → ℕ
+endAt f r = r .start + bytesIn f r
 
 abbrev pub endBy : ℕ → DataEnd
 endBy n = when (ltb n endBound) (At n) Over

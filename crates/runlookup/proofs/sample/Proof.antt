@@ -35,7 +35,7 @@ returns-2 : tie.Need-returns-2
 returns-2 c = no-place (c .before .before .before .before .before .before .args .file .now) (rowsOf (c .before .before .before .before .before .before .args .table .now) (c .before .before .before .before .before .before .args .n)) (c .before .before .before .before .before .before .args .track) (c .before .before .before .before .before .before .args .number) (c .before .before .before .if1 .left) _ (c .before .before .place-of .ensures) (c .enum-told .given .1)
 
 returns-3 : tie.Need-returns-3
-returns-3 c = place-one (c .before .before .before .before .before .before .before .before .before .before .before .args .file .now) (rowsOf (c .before .before .before .before .before .before .before .before .before .before .before .args .table .now) (c .before .before .before .before .before .before .before .before .before .before .before .args .n)) (c .before .before .before .before .before .before .before .before .before .before .before .args .track) (c .before .before .before .before .before .before .before .before .before .before .before .args .number) (c .before .before .before .before .before .before .before .before .if1 .left) _ (c .before .before .before .before .before .before .before .place-of .ensures) _ _ _ (c .before .before .before .before .before .run .given .1) (c .before .before .before .nth .result) (c .before .before .before .nth .ensures) _ _ (c .before .sample .given .1)
+returns-3 c = place-one (c .before .before .before .before .before .before .before .before .before .before .before .before .args .file .now) (rowsOf (c .before .before .before .before .before .before .before .before .before .before .before .before .args .table .now) (c .before .before .before .before .before .before .before .before .before .before .before .before .args .n)) (c .before .before .before .before .before .before .before .before .before .before .before .before .args .track) (c .before .before .before .before .before .before .before .before .before .before .before .before .args .number) (c .before .before .before .before .before .before .before .before .before .if1 .left) _ (c .before .before .before .before .before .before .before .before .place-of .ensures) _ _ _ (c .before .before .before .before .before .before .run .given .1) (c .before .before .before .before .nth .result) (c .before .before .before .before .nth .ensures) _ _ _ (c .before .before .sample .given .1) (search needs)
 
 returns-4 : tie.Need-returns-4
 returns-4 c = place-over (c .before .before .before .before .before .before .before .before .before .before .args .file .now) (rowsOf (c .before .before .before .before .before .before .before .before .before .before .args .table .now) (c .before .before .before .before .before .before .before .before .before .before .args .n)) (c .before .before .before .before .before .before .before .before .before .before .args .track) (c .before .before .before .before .before .before .before .before .before .before .args .number) (c .before .before .before .before .before .before .before .if1 .left) _ (c .before .before .before .before .before .before .place-of .ensures) _ _ _ (c .before .before .before .before .run .given .1) (c .before .before .nth .result) (c .before .before .nth .ensures) (c .before .before .before .before .before .before .before .before .before .before .fits .number .fits) (c .enum-told2 .given .1)
