@@ -72,14 +72,14 @@ first-of m j [] k h = absurd (omega arith)
 first-of m zero (s ∷ l) k h = refl
 first-of m (suc j) (s ∷ l) k h = first-of m j l k (omega arith)
 
-drop-past : (j : ℕ) (l k : List Sample) → length l ≤ j → drop j (l ++ k) ≡ drop (j - length l) k
+pub drop-past : (j : ℕ) (l k : List Sample) → length l ≤ j → drop j (l ++ k) ≡ drop (j - length l) k
 drop-past j l k h =
     let e : j ≡ length l + (j - length l) = omega arith in
     ap (λ (i : ℕ). drop i (l ++ k)) e ∙ drop-append-add l k (j - length l)
 
-own : (f : List ℕ) (t : ℕ) (r : Run) (b k : ℕ) → k < countOf t r → mine f t r b ≡ runSamples f r b
+pub all-mine : (f : List ℕ) (t : ℕ) (r : Run) (b k : ℕ) → k < countOf t r → mine f t r b ≡ runSamples f r b
 unfolding countOf mine when
-own f t r b k h = cases (eqb (r .track) t) h
+all-mine f t r b k h = cases (eqb (r .track) t) h
   where
     cases : (x : Bool) → k < when x (r .trun .«sample_count») 0 → when x (runSamples f r b) [] ≡ runSamples f r b
     cases true g = refl
@@ -96,7 +96,7 @@ module _ (f : List ℕ) (t m : ℕ) where
       cases true e ih =
           let h = ltb-true k (countOf t r) e in
           first-of m k (mine f t r b) (samplesAfter f t (b + countOf t r) rs) (omega (arith, h, length-mine f t b r))
-          ∙ ap (λ (l : List Sample). firstOf m (drop k l)) (own f t r b k h)
+          ∙ ap (λ (l : List Sample). firstOf m (drop k l)) (all-mine f t r b k h)
       cases false e ih =
           let h = ltb-false k (countOf t r) e in
           ap (firstOf m) (drop-past k (mine f t r b) (samplesAfter f t (b + countOf t r) rs) (omega (arith, h, length-mine f t b r)))
