@@ -9,6 +9,7 @@ use Rattle.runs.proofs.begin.Reads as runs-begin
 use Rattle.runs.proofs.next.Reads as runs-next
 use Rattle.runs.proofs.reach.Reads as runs-reach
 use Rattle.runs.proofs.end.Reads as runs-end
+use Rattle.runs.proofs.lasts.Reads as runs-lasts
 
 base-fixed : (κs : _) (a : _) (r q : _) (s t : _) → runs-base.Post κs a r s → runs-base.Post κs a q t → r ≡ q
 base-fixed κs a r q s t p o = p ∙ sym o
@@ -27,3 +28,6 @@ reach-fixed κs a r q s t p o = p ∙ sym o
 
 end-fixed : (κs : _) (a : _) (r q : _) (s t : _) → runs-end.Post κs a r s → runs-end.Post κs a q t → r ≡ q
 end-fixed κs a r q s t p o = p ∙ sym o
+
+lasts-fixed : (κs : _) (a : _) (r q : _) (s t : _) → runs-lasts.Post κs a r s → runs-lasts.Post κs a q t → r ≡ q
+lasts-fixed κs a r q s t p o = p ∙ sym o

@@ -21,7 +21,7 @@ use Rattle.trun.specs.Trun.{optional, trunOf}
 use Rattle.trun.specs.declared.Trun.{Trun}
 use Rattle.runs.specs.Make.{baseOf, makeOf}
 use Rattle.runs.specs.Values.{ownOf, durationAt, sizeAt, flagsBy}
-use Rattle.runs.specs.Samples.{sampleAt, runSamples, bytesIn, endOf, timeAfter}
+use Rattle.runs.specs.Samples.{sampleAt, runSamples, bytesIn, endOf, durationsIn, timeAfter}
 use Rattle.runs.specs.Lane.{left, shown}
 use Rattle.runs.specs.declared.Run.{Run}
 use Rattle.runs.specs.declared.Lane.{Lane}
@@ -93,7 +93,7 @@ case-7 = refl
 
 -- the next run is right where it begins at 18,000
 case-7-next : timeAfter file run ≡ 18000
-unfolding be bytes field when optional signed ownOf durationAt timeAfter
+unfolding be bytes field when optional signed ownOf durationAt durationsIn
 case-7-next = refl
 
 case-7-end : endOf file run ≡ At 1260

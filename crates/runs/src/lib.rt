@@ -7,8 +7,8 @@ ghost use lib.ListN.{drop};
 ghost use Rattle.numbers.specs.Field.{when};
 ghost use Rattle.layout.specs.Rule.{isSet};
 ghost use Rattle.runs.specs.Make.{baseOf, startOf, placed, makeOf};
-ghost use Rattle.runs.specs.Values.{ownOf, sizeAt, flagsBy, syncBy};
-ghost use Rattle.runs.specs.Samples.{bytesIn, endBy, endOf};
+ghost use Rattle.runs.specs.Values.{ownOf, durationAt, sizeAt, flagsBy, syncBy};
+ghost use Rattle.runs.specs.Samples.{bytesIn, endBy, endOf, durationsIn};
 ghost use Rattle.runs.specs.Lane.{begun, left, shown, shows, upTo, upToBy};
 use numbers::Refusal;
 use samples::Sample;
@@ -367,4 +367,39 @@ pub fn end(file: &[u8], run: Run) -> DataEnd
 {
     let start = run.start;
     reach(file, run, start)
+}
+
+// The duration of the i-th sample.
+fn duration_at(file: &[u8], run: Run, i: u32) -> u32
+    ensures { λ r. ⌜ r ≡ durationAt (now (file .entry)) run i ⌝ }
+{
+    let trun = run.trun;
+    let mine = own(file, run, i);
+    chosen(trun.flags, DURATION_BIT, mine.duration, run.duration)
+}
+
+// How long the samples of the run last that say it, one after the other: 2^32 numbers of 32 bits fit together.
+fn lasts_by_one(file: &[u8], run: Run) -> u64
+    ensures { λ r. ⌜ r ≡ durationsIn (now (file .entry)) run ⌝ }
+{
+    let trun = run.trun;
+    let count = trun.sample_count;
+    let mut sum = 0;
+    let mut i = 0;
+    while i < count {
+        sum += duration_at(file, run, i) as u64;
+        i += 1;
+    }
+    sum
+}
+
+// How long the run's samples last together.
+pub fn lasts(file: &[u8], run: Run) -> u64
+    ensures { λ r. ⌜ r ≡ durationsIn (now (file .entry)) run ⌝ }
+{
+    let trun = run.trun;
+    if is_set(trun.flags, DURATION_BIT) {
+        return lasts_by_one(file, run);
+    }
+    (trun.sample_count as u64) * (run.duration as u64)
 }
