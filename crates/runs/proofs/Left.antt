@@ -7,7 +7,7 @@ use native.Mathlib.Nat.{sub-zero}
 use lib.ListN.{length}
 use Rattle.samples.specs.Lists.{bytesOf}
 use Rattle.runs.specs.Values.{durationAt, sizeAt}
-use Rattle.runs.specs.Samples.{sampleAt, samplesFrom, runSamples, sumFrom, endAt}
+use Rattle.runs.specs.Samples.{sampleAt, samplesFrom, runSamples, sumFrom, bytesIn, endAt}
 use Rattle.runs.specs.Lane.{left, begun}
 use Rattle.runs.specs.declared.Run.{Run}
 use Rattle.runs.specs.declared.Lane.{Lane}
@@ -35,7 +35,10 @@ module _ (f : List ℕ) (r : Run) where
   bytes-from (suc k) i n at time =
       ap (λ (b : ℕ). sizeAt f r i + b) (bytes-from k (i + 1) (n + 1) (at + sizeAt f r i) (time + durationAt f r i))
 
+  pub bytes-are : (n : ℕ) → bytesOf (runSamples f r n) ≡ bytesIn f r
+  unfolding bytesIn runSamples
+  bytes-are n = bytes-from (r .trun .«sample_count») 0 n (r .start) (r .time)
+
   -- the end of a run's data is its start and the bytes of its samples
   pub end-is : (n : ℕ) → endAt f r ≡ r .start + bytesOf (runSamples f r n)
-  unfolding endAt runSamples
-  end-is n = ap (λ (b : ℕ). r .start + b) (sym (bytes-from (r .trun .«sample_count») 0 n (r .start) (r .time)))
+  end-is n = ap (λ (b : ℕ). r .start + b) (sym (bytes-are n))

@@ -4,12 +4,12 @@ use mathlib.Core.Path.{_≡_, refl, sym, ap, _∙_}
 use mathlib.Core.List.{List}
 use mathlib.Core.Bool.{false}
 use native.Mathlib.Omega.{arith}
-use native.Mathlib.Nat.{suc-mul, zero-mul, mul-le-mul-right}
+use native.Mathlib.Nat.{suc-mul, zero-mul, mul-le-mul-right, zero-add, sub-zero}
 use Rattle.numbers.proofs.Chain.{is-lt, not-lt, by-false}
 use Rattle.layout.specs.Rule.{isSet}
-use Rattle.trun.specs.Trun.{sizeBit}
-use Rattle.runs.specs.Values.{ownOf, sizeAt}
-use Rattle.runs.specs.Samples.{sumFrom, endAt, endBy}
+use Rattle.trun.specs.Trun.{durationBit, sizeBit}
+use Rattle.runs.specs.Values.{ownOf, durationAt, sizeAt}
+use Rattle.runs.specs.Samples.{sumFrom, bytesIn, endBy, durationsIn}
 use Rattle.runs.specs.declared.Run.{Run}
 use Rattle.runs.specs.declared.DataEnd.the-variants.{At, Over}
 
@@ -19,6 +19,10 @@ module _ (g : ℕ → ℕ) where
 
   pub sum-end : (n i : ℕ) → n ≤ i → sumFrom g (n - i) i ≡ 0
   sum-end n i h = let e : n - i ≡ 0 = omega arith in ap (λ (k : ℕ). sumFrom g k i) e
+
+  -- of all, as a loop that begins has it
+  pub sum-begins : (n : ℕ) → 0 + sumFrom g (n - 0) 0 ≡ sumFrom g n 0
+  sum-begins n = zero-add (sumFrom g (n - 0) 0) ∙ ap (λ (k : ℕ). sumFrom g k 0) (sub-zero n)
 
   -- of one value
   pub sum-same : (v : ℕ) → ((i : ℕ) → g i ≡ v) → (n i : ℕ) → sumFrom g n i ≡ n * v
@@ -40,7 +44,12 @@ module _ (n : ℕ) where
 
 module _ (f : List ℕ) (r : Run) where
   -- a default size, as often as there are samples
-  pub end-same : isSet (r .trun .flags) sizeBit ≡ false → r .start + r .trun .«sample_count» * r .size ≡ endAt f r
-  unfolding endAt sizeAt
-  end-same e =
-      sym (ap (λ (k : ℕ). r .start + k) (sum-same (sizeAt f r) (r .size) (λ i. sym (by-false (ownOf f r i .size) (r .size) (r .size) _ e refl)) (r .trun .«sample_count») 0))
+  pub bytes-same : isSet (r .trun .flags) sizeBit ≡ false → r .trun .«sample_count» * r .size ≡ bytesIn f r
+  unfolding bytesIn sizeAt
+  bytes-same e =
+      sym (sum-same (sizeAt f r) (r .size) (λ i. sym (by-false (ownOf f r i .size) (r .size) (r .size) _ e refl)) (r .trun .«sample_count») 0)
+
+  pub durations-same : isSet (r .trun .flags) durationBit ≡ false → r .trun .«sample_count» * r .duration ≡ durationsIn f r
+  unfolding durationsIn durationAt
+  durations-same e =
+      sym (sum-same (durationAt f r) (r .duration) (λ i. sym (by-false (ownOf f r i .duration) (r .duration) (r .duration) _ e refl)) (r .trun .«sample_count») 0)

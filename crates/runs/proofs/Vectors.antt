@@ -21,7 +21,7 @@ use Rattle.trun.specs.Trun.{optional, trunOf}
 use Rattle.trun.specs.declared.Trun.{Trun}
 use Rattle.runs.specs.Make.{baseOf, makeOf}
 use Rattle.runs.specs.Values.{ownOf, durationAt, sizeAt, flagsBy}
-use Rattle.runs.specs.Samples.{sampleAt, runSamples, endAt, endOf, timeAfter}
+use Rattle.runs.specs.Samples.{sampleAt, runSamples, bytesIn, endOf, durationsIn, timeAfter}
 use Rattle.runs.specs.Lane.{left, shown}
 use Rattle.runs.specs.declared.Run.{Run}
 use Rattle.runs.specs.declared.Lane.{Lane}
@@ -93,11 +93,11 @@ case-7 = refl
 
 -- the next run is right where it begins at 18,000
 case-7-next : timeAfter file run ≡ 18000
-unfolding be bytes field when optional signed ownOf durationAt timeAfter
+unfolding be bytes field when optional signed ownOf durationAt durationsIn
 case-7-next = refl
 
 case-7-end : endOf file run ≡ At 1260
-unfolding be bytes field when optional signed ownOf sizeAt endAt
+unfolding be bytes field when optional signed ownOf sizeAt bytesIn
 case-7-end = refl
 
 -- BASE AND START
@@ -206,9 +206,9 @@ abbrev far : Run
 far = record { track = 7; start = 0xffff_ffff_ffff_fff5; time = 0; at = 0; trun = record { version = 0; flags = 0; «sample_count» = 2; «data_offset» = 0; «first_sample_flags» = 0 }; duration = 4; size = 5; flags = 0 }
 
 end-held : endOf [] far ≡ At 0xffff_ffff_ffff_ffff
-unfolding be bytes field when optional signed ownOf sizeAt endAt
+unfolding be bytes field when optional signed ownOf sizeAt bytesIn
 end-held = refl
 
 end-over : endOf [] (record { track = 7; start = 0xffff_ffff_ffff_fff6; time = 0; at = 0; trun = record { version = 0; flags = 0; «sample_count» = 2; «data_offset» = 0; «first_sample_flags» = 0 }; duration = 4; size = 5; flags = 0 }) ≡ Over
-unfolding be bytes field when optional signed ownOf sizeAt endAt
+unfolding be bytes field when optional signed ownOf sizeAt bytesIn
 end-over = refl

@@ -38,9 +38,12 @@ abbrev pub sumFrom : (ℕ → ℕ) → ℕ → ℕ → ℕ
 sumFrom g zero i = 0
 sumFrom g (suc k) i = g i + sumFrom g k (i + 1)
 
--- the end of a run's data
-unfoldable pub endAt : List ℕ → Run → ℕ
-endAt f r = r .start + sumFrom (sizeAt f r) (r .trun .«sample_count») 0
+-- the bytes of a run's samples, and the end of its data
+unfoldable pub bytesIn : List ℕ → Run → ℕ
+bytesIn f r = sumFrom (sizeAt f r) (r .trun .«sample_count») 0
+
+abbrev pub endAt : List ℕ → Run → ℕ
+endAt f r = r .start + bytesIn f r
 
 abbrev pub endBy : ℕ → DataEnd
 endBy n = when (ltb n endBound) (At n) Over
@@ -48,6 +51,9 @@ endBy n = when (ltb n endBound) (At n) Over
 abbrev pub endOf : List ℕ → Run → DataEnd
 endOf f r = endBy (endAt f r)
 
--- the time after a run: that at which the track's next one is to begin
-unfoldable pub timeAfter : List ℕ → Run → ℕ
-timeAfter f r = r .time + sumFrom (durationAt f r) (r .trun .«sample_count») 0
+-- how long a run's samples last together, and the time after it: that at which the track's next run is to begin
+unfoldable pub durationsIn : List ℕ → Run → ℕ
+durationsIn f r = sumFrom (durationAt f r) (r .trun .«sample_count») 0
+
+abbrev pub timeAfter : List ℕ → Run → ℕ
+timeAfter f r = r .time + durationsIn f r

@@ -7,8 +7,8 @@ ghost use lib.ListN.{drop};
 ghost use Rattle.numbers.specs.Field.{when};
 ghost use Rattle.layout.specs.Rule.{isSet};
 ghost use Rattle.runs.specs.Make.{baseOf, startOf, placed, makeOf};
-ghost use Rattle.runs.specs.Values.{ownOf, sizeAt, flagsBy, syncBy};
-ghost use Rattle.runs.specs.Samples.{sumFrom, endBy, endOf};
+ghost use Rattle.runs.specs.Values.{ownOf, durationAt, sizeAt, flagsBy, syncBy};
+ghost use Rattle.runs.specs.Samples.{bytesIn, endBy, endOf, durationsIn};
 ghost use Rattle.runs.specs.Lane.{begun, left, shown, shows, upTo, upToBy};
 use numbers::Refusal;
 use samples::Sample;
@@ -329,7 +329,7 @@ fn size_at(file: &[u8], run: Run, i: u32) -> u32
 
 // What follows a position and all sizes, one after the other.
 fn end_by_one(file: &[u8], run: Run, from: u64) -> DataEnd
-    ensures { λ r. ⌜ r ≡ endBy (from + sumFrom (sizeAt (now (file .entry)) run) (run .trun .«sample_count») 0) ⌝ }
+    ensures { λ r. ⌜ r ≡ endBy (from + bytesIn (now (file .entry)) run) ⌝ }
 {
     let trun = run.trun;
     let count = trun.sample_count;
@@ -346,18 +346,60 @@ fn end_by_one(file: &[u8], run: Run, from: u64) -> DataEnd
     DataEnd::At(at)
 }
 
+// What follows a position and all sizes of the run.
+pub fn reach(file: &[u8], run: Run, from: u64) -> DataEnd
+    ensures { λ r. ⌜ r ≡ endBy (from + bytesIn (now (file .entry)) run) ⌝ }
+{
+    let trun = run.trun;
+    if is_set(trun.flags, SIZE_BIT) {
+        return end_by_one(file, run, from);
+    }
+    let all = (trun.sample_count as u64) * (run.size as u64);
+    if LAST - from < all {
+        return DataEnd::Over;
+    }
+    DataEnd::At(from + all)
+}
+
 // Where the run's data end: its start and all sizes.
 pub fn end(file: &[u8], run: Run) -> DataEnd
     ensures { λ r. ⌜ r ≡ endOf (now (file .entry)) run ⌝ }
 {
-    let trun = run.trun;
     let start = run.start;
-    if is_set(trun.flags, SIZE_BIT) {
-        return end_by_one(file, run, start);
+    reach(file, run, start)
+}
+
+// The duration of the i-th sample.
+fn duration_at(file: &[u8], run: Run, i: u32) -> u32
+    ensures { λ r. ⌜ r ≡ durationAt (now (file .entry)) run i ⌝ }
+{
+    let trun = run.trun;
+    let mine = own(file, run, i);
+    chosen(trun.flags, DURATION_BIT, mine.duration, run.duration)
+}
+
+// How long the samples of the run last that say it, one after the other: 2^32 numbers of 32 bits fit together.
+fn lasts_by_one(file: &[u8], run: Run) -> u64
+    ensures { λ r. ⌜ r ≡ durationsIn (now (file .entry)) run ⌝ }
+{
+    let trun = run.trun;
+    let count = trun.sample_count;
+    let mut sum = 0;
+    let mut i = 0;
+    while i < count {
+        sum += duration_at(file, run, i) as u64;
+        i += 1;
     }
-    let all = (trun.sample_count as u64) * (run.size as u64);
-    if LAST - start < all {
-        return DataEnd::Over;
+    sum
+}
+
+// How long the run's samples last together.
+pub fn lasts(file: &[u8], run: Run) -> u64
+    ensures { λ r. ⌜ r ≡ durationsIn (now (file .entry)) run ⌝ }
+{
+    let trun = run.trun;
+    if is_set(trun.flags, DURATION_BIT) {
+        return lasts_by_one(file, run);
     }
-    DataEnd::At(start + all)
+    (trun.sample_count as u64) * (run.duration as u64)
 }
