@@ -94,8 +94,7 @@ class Ours:
             if row[-1] == "same":
                 self.samples[int(row[0])] = list(map(int, row[1:-1]))
             elif row[0] == "sample" and row[2] != "refused":
-                self.samples[int(row[1])] = list(map(int, row[2:-1]))
-                assert row[-1] == row[-2], track
+                self.samples[int(row[1])] = list(map(int, row[2:]))
             elif row[0] == "sample" and row[2:4] == ["refused", "9"]:
                 self.over[int(row[1])] = row[-1] == "1"
             elif row[0] == "sample":

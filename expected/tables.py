@@ -151,7 +151,7 @@ def lookup(found, number):
     if not 0 < number <= count(found):
         return words("sample", number, "refused", 11, number, "refused", 11, number)
     sample = next(itertools.islice(samples(found), number - 1, None))
-    return words("sample", *(sample if held(sample) else (number, "refused", 9, 0)), sample[-1])
+    return words("sample", *(sample[:-1] if held(sample) else (number, "refused", 9, 0)), sample[-1])
 
 
 def lines(data):

@@ -13,6 +13,7 @@ use lanes::Taken;
 use libc::STDOUT_FILENO;
 use lookup::Synced;
 use numbers::U32;
+use samples::Located;
 use samples::Sample;
 use stbl::Found;
 use stbl::Places;
@@ -30,23 +31,31 @@ fn bit(b: bool) -> u64 {
     if b { 1 } else { 0 }
 }
 
-fn print_fields(s: Sample) {
+fn print_fields(s: Located) {
     say::next_number(s.offset);
     say::next_number(s.size as u64);
     say::next_number(s.time);
     say::next_number(s.duration as u64);
     say::next_signed(s.composition);
-    say::next_number(bit(s.sync));
 }
 
-fn same(a: Sample, b: Sample) -> bool {
-    (a.number == b.number)
-        & (a.offset == b.offset)
+// What a lookup should tell of the sample.
+fn located(s: Sample) -> Located {
+    Located {
+        offset: s.offset,
+        size: s.size,
+        time: s.time,
+        duration: s.duration,
+        composition: s.composition,
+    }
+}
+
+fn same(a: Located, b: Located) -> bool {
+    (a.offset == b.offset)
         & (a.size == b.size)
         & (a.time == b.time)
         & (a.duration == b.duration)
         & (a.composition == b.composition)
-        & (bit(a.sync) == bit(b.sync))
 }
 
 fn has_sync(file: &[u8], track: Track, s: Sample) -> bool {
@@ -59,14 +68,15 @@ fn has_sync(file: &[u8], track: Track, s: Sample) -> bool {
 // Whether the lookup has the same sample.
 fn looks_up(file: &[u8], track: Track, s: Sample) -> bool {
     match lookup::sample(file, track, s.number) {
-        samples::Found::Is(t) => same(s, t) & has_sync(file, track, s),
+        samples::Found::Is(t) => same(located(s), t) & has_sync(file, track, s),
         samples::Found::Refused(_) => false,
     }
 }
 
 fn print_sample(file: &[u8], track: Track, s: Sample) {
     say::number(s.number as u64);
-    print_fields(s);
+    print_fields(located(s));
+    say::next_number(bit(s.sync));
     if looks_up(file, track, s) {
         say::text(b"\tsame\n");
     } else {
