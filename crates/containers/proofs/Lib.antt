@@ -1,3 +1,2 @@
-pub mod ContainerLaws
 mod Unique
 mod Vectors

@@ -2,15 +2,11 @@
 use mathlib.Core.Path.{_≡_, refl}
 use mathlib.Core.List.{[], _++_}
 use Prim.Native.Nat.{_+_}
-use lib.ListN.{replicate}
 use Rattle.numbers.specs.Number.{be, bytes}
 use Rattle.numbers.specs.Field.{refusal, field, when}
-use Rattle.put.specs.Put.{wrote}
-use Rattle.put.specs.declared.Put.the-variants as put
 use Rattle.places.specs.Kinds.{edts, elst, dinf, dref, mvex, trex, traf, tfhd, tfdt, trun, moof, mfhd, mdat}
 use Rattle.layout.specs.Rule.{ruleOf}
 use Rattle.layout.specs.Read.{one, decode}
-use Rattle.layout.specs.Write.{lay, encode}
 use Rattle.children.specs.Children.{rowOf, firstIn, wholeIn}
 use Rattle.children.specs.declared.Place.the-variants.{Absent, At}
 use Rattle.children.proofs.Example.{of}
@@ -38,14 +34,6 @@ dinf-refused : dinf-is.dinfOf (of dinf (of dref [] ++ bytes 4 9 ++ bytes 4 mdat)
 unfolding be bytes field when ruleOf one decode rowOf firstIn wholeIn
 dinf-refused = refl
 
-dinf-content : dinf-is.contentOf (of dinf (of dref [])) ≡ of dref []
-unfolding be bytes field when ruleOf one decode rowOf firstIn wholeIn
-dinf-content = refl
-
-dinf-written : dinf-is.dinfIn (of dref []) (replicate 17 9) ≡ wrote (put.Done 16) (of dinf (of dref []) ++ replicate 1 9)
-unfolding bytes when ruleOf lay encode
-dinf-written = refl
-
 edts-read : edts-is.edtsOf (of edts (of mdat [] ++ of elst [])) ≡ edts-found.Is (record { elst = At 16 })
 unfolding be bytes field when ruleOf one decode rowOf firstIn wholeIn
 edts-read = refl
@@ -57,14 +45,6 @@ edts-empty = refl
 edts-refused : edts-is.edtsOf (of edts (of elst [] ++ bytes 4 9 ++ bytes 4 mdat)) ≡ edts-found.Refused (refusal 1 16)
 unfolding be bytes field when ruleOf one decode rowOf firstIn wholeIn
 edts-refused = refl
-
-edts-content : edts-is.contentOf (of edts (of elst [])) ≡ of elst []
-unfolding be bytes field when ruleOf one decode rowOf firstIn wholeIn
-edts-content = refl
-
-edts-written : edts-is.edtsIn (of elst []) (replicate 17 9) ≡ wrote (put.Done 16) (of edts (of elst []) ++ replicate 1 9)
-unfolding bytes when ruleOf lay encode
-edts-written = refl
 
 moof-read : moof-is.moofOf (of moof (of mdat [] ++ of mfhd [] ++ of traf [])) ≡ moof-found.Is (record { mfhd = At 16; traf = At 24 })
 unfolding be bytes field when ruleOf one decode rowOf firstIn wholeIn
@@ -78,14 +58,6 @@ moof-refused : moof-is.moofOf (of moof (of mfhd [] ++ bytes 4 9 ++ bytes 4 mdat)
 unfolding be bytes field when ruleOf one decode rowOf firstIn wholeIn
 moof-refused = refl
 
-moof-content : moof-is.contentOf (of moof (of mfhd [])) ≡ of mfhd []
-unfolding be bytes field when ruleOf one decode rowOf firstIn wholeIn
-moof-content = refl
-
-moof-written : moof-is.moofIn (of mfhd []) (replicate 17 9) ≡ wrote (put.Done 16) (of moof (of mfhd []) ++ replicate 1 9)
-unfolding bytes when ruleOf lay encode
-moof-written = refl
-
 mvex-read : mvex-is.mvexOf (of mvex (of mdat [] ++ of trex [])) ≡ mvex-found.Is (record { trex = At 16 })
 unfolding be bytes field when ruleOf one decode rowOf firstIn wholeIn
 mvex-read = refl
@@ -98,14 +70,6 @@ mvex-refused : mvex-is.mvexOf (of mvex (of trex [] ++ bytes 4 9 ++ bytes 4 mdat)
 unfolding be bytes field when ruleOf one decode rowOf firstIn wholeIn
 mvex-refused = refl
 
-mvex-content : mvex-is.contentOf (of mvex (of trex [])) ≡ of trex []
-unfolding be bytes field when ruleOf one decode rowOf firstIn wholeIn
-mvex-content = refl
-
-mvex-written : mvex-is.mvexIn (of trex []) (replicate 17 9) ≡ wrote (put.Done 16) (of mvex (of trex []) ++ replicate 1 9)
-unfolding bytes when ruleOf lay encode
-mvex-written = refl
-
 traf-read : traf-is.trafOf (of traf (of mdat [] ++ of tfhd [] ++ of trun [])) ≡ traf-found.Is (record { tfhd = At 16; tfdt = Absent; trun = At 24 })
 unfolding be bytes field when ruleOf one decode rowOf firstIn wholeIn
 traf-read = refl
@@ -117,11 +81,3 @@ traf-empty = refl
 traf-refused : traf-is.trafOf (of traf (of tfhd [] ++ bytes 4 9 ++ bytes 4 mdat)) ≡ traf-found.Refused (refusal 1 16)
 unfolding be bytes field when ruleOf one decode rowOf firstIn wholeIn
 traf-refused = refl
-
-traf-content : traf-is.contentOf (of traf (of tfhd [])) ≡ of tfhd []
-unfolding be bytes field when ruleOf one decode rowOf firstIn wholeIn
-traf-content = refl
-
-traf-written : traf-is.trafIn (of tfhd []) (replicate 17 9) ≡ wrote (put.Done 16) (of traf (of tfhd []) ++ replicate 1 9)
-unfolding bytes when ruleOf lay encode
-traf-written = refl

@@ -2,20 +2,12 @@
 -- Assumes nothing.
 use Prim.Native.Nat.{ℕ}
 use mathlib.Core.List.{List}
-use Rattle.put.specs.Put.{Wrote}
 use Rattle.places.specs.Kinds.{moof, mfhd, traf}
 use Rattle.rows.specs.Judge.{settle}
-use Rattle.children.specs.Children.{wholeOf, placeOf, containerIn}
-use Rattle.children.specs.Children as children
+use Rattle.children.specs.Children.{wholeOf, placeOf}
 use Rattle.containers.specs.declared.moof.Found.{Found}
 use Rattle.containers.specs.declared.moof.Found.the-variants.{Is, Refused}
 
 -- no child's header has a fault, and the first of each type is told
 abbrev pub moofOf : List ℕ → Found
 moofOf part = settle (Is (record { mfhd = placeOf moof mfhd part; traf = placeOf moof traf part })) Refused (wholeOf moof part)
-
-abbrev pub contentOf : List ℕ → List ℕ
-contentOf part = children.contentOf moof part
-
-abbrev pub moofIn : List ℕ → List ℕ → Wrote
-moofIn bytes out = containerIn moof bytes out

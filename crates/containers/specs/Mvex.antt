@@ -2,20 +2,12 @@
 -- Assumes nothing.
 use Prim.Native.Nat.{ℕ}
 use mathlib.Core.List.{List}
-use Rattle.put.specs.Put.{Wrote}
 use Rattle.places.specs.Kinds.{mvex, trex}
 use Rattle.rows.specs.Judge.{settle}
-use Rattle.children.specs.Children.{wholeOf, placeOf, containerIn}
-use Rattle.children.specs.Children as children
+use Rattle.children.specs.Children.{wholeOf, placeOf}
 use Rattle.containers.specs.declared.mvex.Found.{Found}
 use Rattle.containers.specs.declared.mvex.Found.the-variants.{Is, Refused}
 
 -- no child's header has a fault, and the first of each type is told
 abbrev pub mvexOf : List ℕ → Found
 mvexOf part = settle (Is (record { trex = placeOf mvex trex part })) Refused (wholeOf mvex part)
-
-abbrev pub contentOf : List ℕ → List ℕ
-contentOf part = children.contentOf mvex part
-
-abbrev pub mvexIn : List ℕ → List ℕ → Wrote
-mvexIn bytes out = containerIn mvex bytes out

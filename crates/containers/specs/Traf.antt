@@ -2,20 +2,12 @@
 -- lie. Assumes nothing.
 use Prim.Native.Nat.{ℕ}
 use mathlib.Core.List.{List}
-use Rattle.put.specs.Put.{Wrote}
 use Rattle.places.specs.Kinds.{traf, tfhd, tfdt, trun}
 use Rattle.rows.specs.Judge.{settle}
-use Rattle.children.specs.Children.{wholeOf, placeOf, containerIn}
-use Rattle.children.specs.Children as children
+use Rattle.children.specs.Children.{wholeOf, placeOf}
 use Rattle.containers.specs.declared.traf.Found.{Found}
 use Rattle.containers.specs.declared.traf.Found.the-variants.{Is, Refused}
 
 -- no child's header has a fault, and the first of each type is told
 abbrev pub trafOf : List ℕ → Found
 trafOf part = settle (Is (record { tfhd = placeOf traf tfhd part; tfdt = placeOf traf tfdt part; trun = placeOf traf trun part })) Refused (wholeOf traf part)
-
-abbrev pub contentOf : List ℕ → List ℕ
-contentOf part = children.contentOf traf part
-
-abbrev pub trafIn : List ℕ → List ℕ → Wrote
-trafIn bytes out = containerIn traf bytes out

@@ -1,11 +1,9 @@
 // A fragment of a movie (ISO/IEC 14496-12, 8.8.4): boxes, and where its header and the first track's part lie.
 ghost use mathlib.Core.Path.{_≡_};
-ghost use Rattle.put.specs.Put.{wrote};
-ghost use Rattle.containers.specs.Moof.{moofOf, contentOf, moofIn};
+ghost use Rattle.containers.specs.Moof.{moofOf};
 use children::Place;
 use numbers::Refusal;
 use places::kinds;
-use put::Put;
 use rows::Judged;
 
 pub struct Moof {
@@ -28,17 +26,4 @@ pub fn read(part: &[u8]) -> Found
             traf: children::place_of(part, kinds::MOOF, kinds::TRAF),
         }),
     }
-}
-
-// The children's bytes, as the part of the box where they lie; no bytes where the box's header is refused.
-pub fn content(part: &[u8]) -> &[u8]
-    ensures { λ r. ⌜ now r ≡ contentOf (now (part .entry)) ⌝ }
-{
-    children::content(part, kinds::MOOF)
-}
-
-pub fn write(children: &[u8], out: &mut [u8]) -> Put
-    ensures { λ r. ⌜ wrote r (now (out .exit)) ≡ moofIn (now (children .entry)) (now (out .entry)) ⌝ }
-{
-    children::around(children, kinds::MOOF, out)
 }

@@ -1,12 +1,10 @@
 // The part of a track in a fragment (ISO/IEC 14496-12, 8.8.6): boxes, and where its header, its time and its first run
 // lie.
 ghost use mathlib.Core.Path.{_≡_};
-ghost use Rattle.put.specs.Put.{wrote};
-ghost use Rattle.containers.specs.Traf.{trafOf, contentOf, trafIn};
+ghost use Rattle.containers.specs.Traf.{trafOf};
 use children::Place;
 use numbers::Refusal;
 use places::kinds;
-use put::Put;
 use rows::Judged;
 
 pub struct Traf {
@@ -31,17 +29,4 @@ pub fn read(part: &[u8]) -> Found
             trun: children::place_of(part, kinds::TRAF, kinds::TRUN),
         }),
     }
-}
-
-// The children's bytes, as the part of the box where they lie; no bytes where the box's header is refused.
-pub fn content(part: &[u8]) -> &[u8]
-    ensures { λ r. ⌜ now r ≡ contentOf (now (part .entry)) ⌝ }
-{
-    children::content(part, kinds::TRAF)
-}
-
-pub fn write(children: &[u8], out: &mut [u8]) -> Put
-    ensures { λ r. ⌜ wrote r (now (out .exit)) ≡ trafIn (now (children .entry)) (now (out .entry)) ⌝ }
-{
-    children::around(children, kinds::TRAF, out)
 }

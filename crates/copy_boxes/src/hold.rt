@@ -27,9 +27,9 @@ fn edts(part: &[u8], out: &mut [u8]) {
         containers::edts::Found::Is(b) => {
             let elst = b.elst;
             place(elst);
-            let content = containers::edts::content(part);
+            let content = children::content(part, EDTS);
             say::canonical(part, EDTS, [Field::Nothing; 24], content.len());
-            let put = containers::edts::write(content, out);
+            let put = children::around(content, EDTS, out);
             say::written(put, part, out);
         }
     }
@@ -41,9 +41,9 @@ fn dinf(part: &[u8], out: &mut [u8]) {
         containers::dinf::Found::Is(b) => {
             let dref = b.dref;
             place(dref);
-            let content = containers::dinf::content(part);
+            let content = children::content(part, DINF);
             say::canonical(part, DINF, [Field::Nothing; 24], content.len());
-            let put = containers::dinf::write(content, out);
+            let put = children::around(content, DINF, out);
             say::written(put, part, out);
         }
     }
@@ -55,9 +55,9 @@ fn mvex(part: &[u8], out: &mut [u8]) {
         containers::mvex::Found::Is(b) => {
             let trex = b.trex;
             place(trex);
-            let content = containers::mvex::content(part);
+            let content = children::content(part, MVEX);
             say::canonical(part, MVEX, [Field::Nothing; 24], content.len());
-            let put = containers::mvex::write(content, out);
+            let put = children::around(content, MVEX, out);
             say::written(put, part, out);
         }
     }
@@ -71,9 +71,9 @@ fn moof(part: &[u8], out: &mut [u8]) {
             place(mfhd);
             let traf = b.traf;
             place(traf);
-            let content = containers::moof::content(part);
+            let content = children::content(part, MOOF);
             say::canonical(part, MOOF, [Field::Nothing; 24], content.len());
-            let put = containers::moof::write(content, out);
+            let put = children::around(content, MOOF, out);
             say::written(put, part, out);
         }
     }
@@ -89,9 +89,9 @@ fn traf(part: &[u8], out: &mut [u8]) {
             place(tfdt);
             let trun = b.trun;
             place(trun);
-            let content = containers::traf::content(part);
+            let content = children::content(part, TRAF);
             say::canonical(part, TRAF, [Field::Nothing; 24], content.len());
-            let put = containers::traf::write(content, out);
+            let put = children::around(content, TRAF, out);
             say::written(put, part, out);
         }
     }
