@@ -5,7 +5,7 @@ use mathlib.Core.Path.{_≡_, sym, ap, _∙_}
 use mathlib.Core.List.{List}
 use denote.Ref.{now}
 use Rattle.samples.specs.declared.Sample.{Sample}
-use Rattle.runs.specs.Lane.{shown}
+use Rattle.samples.specs.Lists.{view}
 use Rattle.runs.specs.declared.Run.{Run}
 use Rattle.runtable.specs.Table.{rowsOf}
 use Rattle.fragments.specs.Lane.{left, shows}
@@ -23,8 +23,8 @@ next-fixed : (κs : _) (a : _) (r q : _) (s t : _) → fragments-next.Post κs a
 next-fixed κs a r q s t p o = p ∙ sym o
 
 -- nor do answers tell two lanes apart that have the same left
-next-alike : (f : List ℕ) (rs : List Run) (t : ℕ) (l k : Lane) (r q : Taken) → left f rs t l ≡ left f rs t k → shows f rs t r ≡ shown (left f rs t l) → shows f rs t q ≡ shown (left f rs t k) → shows f rs t r ≡ shows f rs t q
-next-alike f rs t l k r q e p o = p ∙ ap shown e ∙ sym o
+next-alike : (f : List ℕ) (rs : List Run) (t : ℕ) (l k : Lane) (r q : Taken) → left f rs t l ≡ left f rs t k → shows f rs t r ≡ view (left f rs t l) → shows f rs t q ≡ view (left f rs t k) → shows f rs t r ≡ shows f rs t q
+next-alike f rs t l k r q e p o = p ∙ ap view e ∙ sym o
 
 -- what that says of two answers with a sample: the samples are equal, and so is what is left
 one-fixed : (f : List ℕ) (rs : List Run) (t : ℕ) (s q : Sample) (l k : Lane) → shows f rs t (taken.One s l) ≡ shows f rs t (taken.One q k) → (s ≡ q) × (left f rs t l ≡ left f rs t k)

@@ -8,7 +8,7 @@ use Rattle.numbers.specs.Number.{be, bytes}
 use Rattle.numbers.specs.Field.{field, when}
 use Rattle.signed.specs.Signed.{signed}
 use Rattle.trun.specs.Trun.{optional}
-use Rattle.samples.specs.Lists.{none, one}
+use Rattle.samples.specs.Lists.{none, one, view}
 use Rattle.samples.specs.declared.Sample.{Sample}
 use Rattle.runs.specs.Values.{ownOf, durationAt, sizeAt, flagsBy}
 use Rattle.runs.specs.Samples.{sampleAt, runSamples}
@@ -55,10 +55,10 @@ after-two = record { next = 1; run = sized 1 2 100 9000 0; inside = record { ind
 abbrev after-three : Lane
 after-three = record { next = 4; run = sized 1 1 200 15000 12; inside = record { index = 1; number = 3; offset = 240; time = 18000 } }
 
-lane-third : run.shown (left file (rowsOf table 4) 1 after-two) ≡ one (a 3 200 40 15000) (left file (rowsOf table 4) 1 after-three)
+lane-third : view (left file (rowsOf table 4) 1 after-two) ≡ one (a 3 200 40 15000) (left file (rowsOf table 4) 1 after-three)
 unfolding be bytes field when optional signed ownOf durationAt sizeAt flagsBy sampleAt runSamples rowAt countOf mine left run.left
 lane-third = refl
 
-lane-end : run.shown (left file (rowsOf table 4) 1 after-three) ≡ none
+lane-end : view (left file (rowsOf table 4) 1 after-three) ≡ none
 unfolding be bytes field when optional signed ownOf durationAt sizeAt flagsBy sampleAt runSamples rowAt countOf mine left run.left
 lane-end = refl

@@ -4,6 +4,7 @@
 ghost use mathlib.Core.Path.{_≡_};
 ghost use Prim.Native.Nat.{_+_};
 ghost use lib.ListN.{drop};
+ghost use Rattle.samples.specs.Lists.{view};
 ghost use Rattle.runs.specs.Lane as inner;
 ghost use Rattle.runtable.specs.Table.{rowsOf};
 ghost use Rattle.fragments.specs.Samples.{mine, countOf, samplesAfter};
@@ -60,7 +61,7 @@ pub fn start() -> Lane
 
 // The first sample of a run, after that many samples of the track; none where the run is another track's.
 fn first(file: &[u8], run: Run, track: u32, number: u32) -> runs::Taken
-    ensures sample { λ r. ⌜ inner.shows (now (file .entry)) run r ≡ inner.shown (mine (now (file .entry)) track run number) ⌝ }
+    ensures sample { λ r. ⌜ inner.shows (now (file .entry)) run r ≡ view (mine (now (file .entry)) track run number) ⌝ }
     ensures number { λ r. ⌜ inner.upToBy run r (number + countOf track run) ≡ number + countOf track run ⌝ }
 {
     if run.track == track {
@@ -72,7 +73,7 @@ fn first(file: &[u8], run: Run, track: u32, number: u32) -> runs::Taken
 
 // The next sample from row `from` on, after that many samples of the track: runs without samples are passed over.
 fn refill(file: &[u8], table: &[u64], count: usize, track: u32, number: u32, from: usize) -> Taken
-    ensures { λ r. ⌜ shows (now (file .entry)) (rowsOf (now (table .entry)) count) track r ≡ inner.shown (samplesAfter (now (file .entry)) track number (drop from (rowsOf (now (table .entry)) count))) ⌝ }
+    ensures { λ r. ⌜ shows (now (file .entry)) (rowsOf (now (table .entry)) count) track r ≡ view (samplesAfter (now (file .entry)) track number (drop from (rowsOf (now (table .entry)) count))) ⌝ }
 {
     let mut i = from;
     while i < count {
@@ -102,7 +103,7 @@ fn refill(file: &[u8], table: &[u64], count: usize, track: u32, number: u32, fro
 
 // The next sample of the track, by the first `count` rows of the table, and the lane after it.
 pub fn next(file: &[u8], table: &[u64], count: usize, track: u32, lane: Lane) -> Taken
-    ensures { λ r. ⌜ shows (now (file .entry)) (rowsOf (now (table .entry)) count) track r ≡ inner.shown (left (now (file .entry)) (rowsOf (now (table .entry)) count) track lane) ⌝ }
+    ensures { λ r. ⌜ shows (now (file .entry)) (rowsOf (now (table .entry)) count) track r ≡ view (left (now (file .entry)) (rowsOf (now (table .entry)) count) track lane) ⌝ }
 {
     let run = lane.run;
     let inside = lane.inside;

@@ -15,7 +15,7 @@ use Rattle.lanes.specs.declared.Lane.{Lane}
 use Rattle.lanes.specs.declared.Taken.{Taken}
 use Rattle.lanes.specs.declared.Taken.the-variants as taken
 use Rattle.lanes.proofs.Left.{left-fresh}
-use Rattle.lanes.proofs.Views.{view-none, view-over, view-one}
+use Rattle.samples.proofs.Views.{view-none, view-over, view-one}
 
 -- the samples before the first that is not held
 abbrev pub heldPart : List Sample → List Sample

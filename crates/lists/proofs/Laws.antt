@@ -18,7 +18,7 @@ use Rattle.samples.specs.declared.Listed.the-variants as listed
 use Rattle.tables.specs.Samples.{samplesOf}
 use Rattle.tables.specs.declared.Track.{Track}
 use Rattle.tables.proofs.Lengths.{how-many}
-use Rattle.lanes.proofs.Views.{Stuck}
+use Rattle.samples.proofs.Views.{Stuck}
 use Rattle.lists.specs.Count.{countOf, Filled}
 use Rattle.lists.specs.declared.Counted.{Counted}
 use Rattle.lists.specs.declared.Counted.the-variants as counted

@@ -2,6 +2,7 @@ pub mod Rows
 pub mod Counts
 pub mod Stuck
 pub mod Places
+pub mod Flags
 pub mod Numbers
-mod Vectors
+pub mod Vectors
 mod Unique

@@ -1,6 +1,5 @@
--- The samples of a track are numbered from 1 through the file; so where there are fewer than 2^32, what a list of them
--- shows is samples' own view. Assumes nothing.
-use Prim.Native.Nat.{ℕ, suc, _+_, _-_, _^_, _<_}
+-- The samples of a track are numbered from 1 through the file. Assumes nothing.
+use Prim.Native.Nat.{ℕ, suc, _+_, _-_, _<_}
 use mathlib.Core.Path.{_≡_, refl, sym, ap, _∙_}
 use mathlib.Core.List.{List, [], _∷_, _++_}
 use mathlib.Core.Bool.{Bool, true, false}
@@ -9,14 +8,10 @@ use lib.ListN.{length, drop, length-drop}
 use lib.Seq.{drop-append-le}
 use lib.Dec.{ltb}
 use borrow.Author.Tests.{ltb-true, ltb-false}
-use Rattle.samples.specs.Lists.{view}
 use Rattle.samples.specs.declared.Sample.{Sample}
-use Rattle.runs.specs.Lane.{shown}
 use Rattle.runs.specs.declared.Run.{Run}
-use Rattle.runs.proofs.Views.{same-view}
-use Rattle.fragments.specs.Samples.{countOf, mine, samplesAfter, samplesOfRuns, countIn}
+use Rattle.fragments.specs.Samples.{countOf, mine, samplesAfter, samplesOfRuns}
 use Rattle.fragments.proofs.Cases.{length-mine}
-use Rattle.fragments.proofs.Left.{how-many}
 use Rattle.runlookup.proofs.Stuck.{number-at}
 use Rattle.runlookup.proofs.Places.{all-mine, drop-past}
 
@@ -46,13 +41,3 @@ module _ (f : List ℕ) (t : ℕ) where
 
   pub numbers-from-1 : (rs : List Run) (j : ℕ) (s : Sample) (k : List Sample) → drop j (samplesOfRuns f rs t) ≡ s ∷ k → s .number ≡ j + 1
   numbers-from-1 rs j s k e = omega (arith, number-after 0 rs j s k e)
-
-  -- a lane over fewer than 2^32 samples shows them as one over tables does
-  pub shown-is-view : (rs : List Run) (j : ℕ) → countIn t rs < 2 ^ 32 → shown (drop j (samplesOfRuns f rs t)) ≡ view (drop j (samplesOfRuns f rs t))
-  shown-is-view rs j h = cases (drop j (samplesOfRuns f rs t)) refl
-    where
-      cases : (l : List Sample) → drop j (samplesOfRuns f rs t) ≡ l → shown l ≡ view l
-      cases [] e = refl
-      cases (s ∷ l) e =
-          let q : length (drop j (samplesOfRuns f rs t)) ≡ suc (length l) = ap (λ (x : List Sample). length x) e in
-          same-view s l (omega (arith, h, numbers-from-1 rs j s l e, q, length-drop j (samplesOfRuns f rs t), how-many f rs t))

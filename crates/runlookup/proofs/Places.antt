@@ -1,30 +1,28 @@
 -- The place of a sample by the counts of runs, and the sample at that place. Assumes nothing.
-use Prim.Native.Nat.{ℕ, zero, suc, _+_, _-_, _^_, _≤_, _<_}
+use Prim.Native.Nat.{ℕ, zero, suc, _+_, _-_, _≤_, _<_}
 use mathlib.Core.Path.{_≡_, refl, sym, ap, _∙_}
 use mathlib.Core.List.{List, [], _∷_, _++_}
-use mathlib.Core.Bool.{Bool, true, false, _&&_}
+use mathlib.Core.Bool.{Bool, true, false}
 use native.Mathlib.Omega.{arith}
 use lib.ListN.{length, drop}
 use lib.Seq.{drop-nil, drop-append-add}
 use lib.Dec.{eqb, ltb}
 use lib.IntN.{ℤ}
-use borrow.Author.Tests.{lt-ltb, ltb-true, ltb-false}
+use borrow.Author.Tests.{ltb-true, ltb-false}
 use Rattle.numbers.specs.Field.{refusal, when}
 use Rattle.numbers.proofs.Chain.{is-lt, not-lt, by-true, by-false}
-use Rattle.samples.specs.Lists.{held, located, firstOf, lookupOf}
+use Rattle.samples.specs.Lists.{view, located, firstOf, lookupOf}
 use Rattle.samples.specs.declared.Sample.{Sample}
-use Rattle.samples.specs.declared.Found.{Found}
 use Rattle.runs.specs.Samples.{runSamples}
 use Rattle.runs.specs.declared.Run.{Run}
 use Rattle.runs.specs.declared.Lane.{Lane}
 use Rattle.runs.specs.declared.Taken.{Taken}
-use Rattle.runs.proofs.Views.{shown-none, shown-over, shown-one, fits-held}
+use Rattle.samples.proofs.Views.{view-none, view-over, view-one}
 use Rattle.fragments.specs.Samples.{countOf, mine, samplesAfter, samplesOfRuns}
 use Rattle.fragments.proofs.Cases.{length-mine}
 use Rattle.runlookup.specs.Lookup.{placeIn}
 use Rattle.runlookup.specs.declared.Place.{Place}
 use Rattle.runlookup.specs.declared.Place.the-variants.{At, Missing}
-use Rattle.runlookup.proofs.Stuck.{number-at}
 use Rattle.samples.specs.declared.Found.the-variants as found
 use Rattle.runs.specs.Lane as run
 use Rattle.runs.specs.declared.Taken.the-variants as taken
@@ -62,16 +60,6 @@ module _ (t k left : ℕ) (rs : List Run) (p : Place) (inv : placeIn t (k - left
 
 -- THE SAMPLE AT A PLACE
 
-abbrev foundAt : List ℕ → ℕ → Place → Found
-foundAt f m (At r b j) = firstOf m (drop j (runSamples f r b))
-foundAt f m Missing = found.Refused (refusal 11 m)
-
--- the first of a list is the first of one with more behind it
-first-of : (m j : ℕ) (l k : List Sample) → j < length l → firstOf m (drop j (l ++ k)) ≡ firstOf m (drop j l)
-first-of m j [] k h = absurd (omega arith)
-first-of m zero (s ∷ l) k h = refl
-first-of m (suc j) (s ∷ l) k h = first-of m j l k (omega arith)
-
 pub drop-past : (j : ℕ) (l k : List Sample) → length l ≤ j → drop j (l ++ k) ≡ drop (j - length l) k
 drop-past j l k h =
     let e : j ≡ length l + (j - length l) = omega arith in
@@ -85,33 +73,33 @@ all-mine f t r b k h = cases (eqb (r .track) t) h
     cases true g = refl
     cases false g = absurd (omega arith)
 
-module _ (f : List ℕ) (t m : ℕ) where
-  by-place : (b k : ℕ) (rs : List Run) → firstOf m (drop k (samplesAfter f t b rs)) ≡ foundAt f m (placeIn t b k rs)
+-- A function that looks at the first of a list alone, of the samples from a place on.
+module _ {A : Type 0} (g : List Sample → A) (first : (s : Sample) (l k : List Sample) → g (s ∷ l) ≡ g (s ∷ k)) where
+  abbrev pub atPlace : List ℕ → Place → A
+  atPlace f (At r b j) = g (drop j (runSamples f r b))
+  atPlace f Missing = g []
+
+  -- the first of a list is the first of one with more behind it
+  first-of : (j : ℕ) (l k : List Sample) → j < length l → g (drop j (l ++ k)) ≡ g (drop j l)
+  first-of j [] k h = absurd (omega arith)
+  first-of zero (s ∷ l) k h = first s (l ++ k) l
+  first-of (suc j) (s ∷ l) k h = first-of j l k (omega arith)
+
+  pub by-place : (f : List ℕ) (t b k : ℕ) (rs : List Run) → g (drop k (samplesAfter f t b rs)) ≡ atPlace f (placeIn t b k rs)
   unfolding placeIn when
-  by-place b k [] = ap (firstOf m) (drop-nil k)
-  by-place b k (r ∷ rs) = cases (ltb k (countOf t r)) refl (by-place (b + countOf t r) (k - countOf t r) rs)
+  by-place f t b k [] = ap g (drop-nil k)
+  by-place f t b k (r ∷ rs) = cases (ltb k (countOf t r)) refl (by-place f t (b + countOf t r) (k - countOf t r) rs)
     where
-      cases : (x : Bool) → ltb k (countOf t r) ≡ x → firstOf m (drop (k - countOf t r) (samplesAfter f t (b + countOf t r) rs)) ≡ foundAt f m (placeIn t (b + countOf t r) (k - countOf t r) rs)
-          → firstOf m (drop k (mine f t r b ++ samplesAfter f t (b + countOf t r) rs)) ≡ foundAt f m (when x (At r b k) (placeIn t (b + countOf t r) (k - countOf t r) rs))
+      cases : (x : Bool) → ltb k (countOf t r) ≡ x → g (drop (k - countOf t r) (samplesAfter f t (b + countOf t r) rs)) ≡ atPlace f (placeIn t (b + countOf t r) (k - countOf t r) rs)
+          → g (drop k (mine f t r b ++ samplesAfter f t (b + countOf t r) rs)) ≡ atPlace f (when x (At r b k) (placeIn t (b + countOf t r) (k - countOf t r) rs))
       cases true e ih =
           let h = ltb-true k (countOf t r) e in
-          first-of m k (mine f t r b) (samplesAfter f t (b + countOf t r) rs) (omega (arith, h, length-mine f t b r))
-          ∙ ap (λ (l : List Sample). firstOf m (drop k l)) (all-mine f t r b k h)
+          first-of k (mine f t r b) (samplesAfter f t (b + countOf t r) rs) (omega (arith, h, length-mine f t b r))
+          ∙ ap (λ (l : List Sample). g (drop k l)) (all-mine f t r b k h)
       cases false e ih =
           let h = ltb-false k (countOf t r) e in
-          ap (firstOf m) (drop-past k (mine f t r b) (samplesAfter f t (b + countOf t r) rs) (omega (arith, h, length-mine f t b r)))
-          ∙ ap (λ (c : ℕ). firstOf m (drop (k - c) (samplesAfter f t (b + countOf t r) rs))) (length-mine f t b r) ∙ ih
-
--- a place tells how many samples come before it
-earlier : (t b k : ℕ) (rs : List Run) (r : Run) (c j : ℕ) → placeIn t b k rs ≡ At r c j → c + j ≡ b + k
-unfolding placeIn when
-earlier t b k [] r c j e = let z : _≡_ {A = ℕ} 0 1 = cc in absurd (omega arith)
-earlier t b k (x ∷ rs) r c j e = cases (ltb k (countOf t x)) refl e (earlier t (b + countOf t x) (k - countOf t x) rs r c j)
-  where
-    cases : (y : Bool) → ltb k (countOf t x) ≡ y → when y (At x b k) (placeIn t (b + countOf t x) (k - countOf t x) rs) ≡ At r c j
-        → (placeIn t (b + countOf t x) (k - countOf t x) rs ≡ At r c j → c + j ≡ b + countOf t x + (k - countOf t x)) → c + j ≡ b + k
-    cases true d g ih = let p : b ≡ c = cc in let q : k ≡ j = cc in omega (arith, p, q)
-    cases false d g ih = omega (arith, ih g, ltb-false k (countOf t x) d)
+          ap g (drop-past k (mine f t r b) (samplesAfter f t (b + countOf t r) rs) (omega (arith, h, length-mine f t b r)))
+          ∙ ap (λ (c : ℕ). g (drop (k - c) (samplesAfter f t (b + countOf t r) rs))) (length-mine f t b r) ∙ ih
 
 -- THE SAMPLE OF A NUMBER
 
@@ -121,36 +109,35 @@ lookup-is l zero h = absurd (h refl)
 lookup-is l (suc n) h = let e : suc n - 1 ≡ n = omega arith in ap (λ (k : ℕ). firstOf (suc n) (drop k l)) (sym e)
 
 module _ (f : List ℕ) (rs : List Run) (t m : ℕ) where
+  by-first : (s : Sample) (l k : List Sample) → firstOf m (s ∷ l) ≡ firstOf m (s ∷ k)
+  by-first s l k = refl
+
   pub none-of-0 : m ≡ 0 → found.Refused (refusal 11 0) ≡ lookupOf (samplesOfRuns f rs t) m
   unfolding lookupOf
   none-of-0 e = sym (ap (lookupOf (samplesOfRuns f rs t)) e)
 
   module _ (h : m ≡ 0 → ⊥) (p : Place) (e : p ≡ placeIn t 0 (m - 1) rs) where
-    is-at : foundAt f m p ≡ lookupOf (samplesOfRuns f rs t) m
-    is-at = ap (foundAt f m) e ∙ sym (by-place f t m 0 (m - 1) rs) ∙ sym (lookup-is (samplesOfRuns f rs t) m h)
+    is-at : atPlace (firstOf m) by-first f p ≡ lookupOf (samplesOfRuns f rs t) m
+    is-at = ap (atPlace (firstOf m) by-first f) e ∙ sym (by-place (firstOf m) by-first f t 0 (m - 1) rs) ∙ sym (lookup-is (samplesOfRuns f rs t) m h)
 
     pub no-place : p ≡ Missing → found.Refused (refusal 11 m) ≡ lookupOf (samplesOfRuns f rs t) m
-    no-place g = sym (ap (foundAt f m) g) ∙ is-at
+    no-place g = sym (ap (atPlace (firstOf m) by-first f) g) ∙ is-at
 
-    module _ (r : Run) (b j : ℕ) (g : p ≡ At r b j) (s : Taken) (es : run.shows f r s ≡ run.shown (drop j (runSamples f r b))) where
+    module _ (r : Run) (b j : ℕ) (g : p ≡ At r b j) (s : Taken) (es : run.shows f r s ≡ view (drop j (runSamples f r b))) where
       here : firstOf m (drop j (runSamples f r b)) ≡ lookupOf (samplesOfRuns f rs t) m
-      here = sym (ap (foundAt f m) g) ∙ is-at
+      here = sym (ap (atPlace (firstOf m) by-first f) g) ∙ is-at
 
       pub place-end : s ≡ taken.End → found.Refused (refusal 11 m) ≡ lookupOf (samplesOfRuns f rs t) m
-      place-end q = sym (ap (firstOf m) (shown-none (drop j (runSamples f r b)) (sym (ap (run.shows f r) q) ∙ es))) ∙ here
+      place-end q = sym (ap (firstOf m) (view-none (drop j (runSamples f r b)) (sym (ap (run.shows f r) q) ∙ es))) ∙ here
 
       pub place-one : (x : Sample) (l : Lane) (c : ℤ) → s ≡ taken.One x l → c ≡ x .composition
           → found.Is (record { offset = x .offset; size = x .size; time = x .time; duration = x .duration; composition = c }) ≡ lookupOf (samplesOfRuns f rs t) m
       place-one x l c q ec =
-          let v = shown-one x (run.left f r l) (drop j (runSamples f r b)) (sym (ap (run.shows f r) q) ∙ es) in
+          let v = view-one x (run.left f r l) (drop j (runSamples f r b)) (sym (ap (run.shows f r) q) ∙ es) in
           ap (λ (z : ℤ). found.Is (record { offset = x .offset; size = x .size; time = x .time; duration = x .duration; composition = z })) ec
-          ∙ by-true (found.Is (located x)) (found.Refused (refusal 9 0)) _ _ (fits-held x (v .1)) refl ∙ sym (ap (firstOf m) (v .0)) ∙ here
+          ∙ by-true (found.Is (located x)) (found.Refused (refusal 9 0)) _ _ (v .1) refl ∙ sym (ap (firstOf m) (v .0)) ∙ here
 
-      pub place-over : m < 2 ^ 32 → s ≡ taken.Over → found.Refused (refusal 9 0) ≡ lookupOf (samplesOfRuns f rs t) m
-      place-over k q =
-          let v = shown-over (drop j (runSamples f r b)) (sym (ap (run.shows f r) q) ∙ es) in
-          let n : v .head .number ≡ b + j + 1 = number-at f r b j (v .head) (v .tail) (v .is) in
-          let c : b + j ≡ 0 + (m - 1) = earlier t 0 (m - 1) rs r b j (sym e ∙ g) in
-          let w : v .head .number < 2 ^ 32 = omega (arith, n, c, k) in
-          let y : held (v .head) ≡ false = sym (ap (λ (a : Bool). a && held (v .head)) (lt-ltb (v .head .number) (2 ^ 32) w)) ∙ v .not-fit in
-          by-false (found.Is (located (v .head))) (found.Refused (refusal 9 0)) _ _ y refl ∙ sym (ap (firstOf m) (v .is)) ∙ here
+      pub place-over : s ≡ taken.Over → found.Refused (refusal 9 0) ≡ lookupOf (samplesOfRuns f rs t) m
+      place-over q =
+          let v = view-over (drop j (runSamples f r b)) (sym (ap (run.shows f r) q) ∙ es) in
+          by-false (found.Is (located (v .head))) (found.Refused (refusal 9 0)) _ _ (v .not-held) refl ∙ sym (ap (firstOf m) (v .is)) ∙ here

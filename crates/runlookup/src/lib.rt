@@ -3,12 +3,14 @@
 ghost use mathlib.Core.Path.{_≡_};
 ghost use Prim.Native.Nat.{_+_};
 ghost use lib.ListN.{drop};
-ghost use Rattle.samples.specs.Lists.{bytesOf, lookupOf};
+ghost use Rattle.samples.specs.Lists.{view, bytesOf, lookupOf};
+ghost use Rattle.lookup.specs.Lookup.{syncOf};
 ghost use Rattle.runs.specs.Samples.{runSamples, endBy};
 ghost use Rattle.runs.specs.Lane as inner;
 ghost use Rattle.runtable.specs.Table.{rowsOf};
 ghost use Rattle.fragments.specs.Samples.{countOf, countIn, samplesOfRuns};
 ghost use Rattle.runlookup.specs.Lookup.{counted, bytesOfRun, placeIn};
+use lookup::Synced;
 use numbers::Refusal;
 use runs::DataEnd;
 use runs::Run;
@@ -115,7 +117,7 @@ fn place_of(table: &[u64], n: usize, track: u32, skip: u32) -> Place
 
 // The sample of that index in a run. Where one before it does not fit, it does not either: ends, times and numbers rise.
 fn nth(file: &[u8], run: Run, earlier: u32, index: u32) -> runs::Taken
-    ensures { λ r. ⌜ inner.shows (now (file .entry)) run r ≡ inner.shown (drop index (runSamples (now (file .entry)) run earlier)) ⌝ }
+    ensures { λ r. ⌜ inner.shows (now (file .entry)) run r ≡ view (drop index (runSamples (now (file .entry)) run earlier)) ⌝ }
 {
     let trun = run.trun;
     if trun.sample_count <= index {
@@ -180,5 +182,30 @@ pub fn sample(file: &[u8], table: &[u64], n: usize, track: u32, number: u32) -> 
                 detail: wide,
             }),
         },
+    }
+}
+
+// Whether the sample of that number is sync, counted from 1, fit or not; 11 with the number where there is none.
+pub fn is_sync(file: &[u8], table: &[u64], n: usize, track: u32, number: u32) -> Synced
+    ensures { λ r. ⌜ r ≡ syncOf (samplesOfRuns (now (file .entry)) (rowsOf (now (table .entry)) n) track) number ⌝ }
+{
+    if number == 0 {
+        return Synced::Refused(Refusal {
+            number: 11,
+            detail: 0,
+        });
+    }
+    let wide = number as usize;
+    let skip = number - 1;
+    match place_of(table, n, track, skip) {
+        Place::Missing => Synced::Refused(Refusal {
+            number: 11,
+            detail: wide,
+        }),
+        Place::At {
+            run,
+            earlier,
+            index,
+        } => Synced::Is(runs::sync_at(file, run, index)),
     }
 }

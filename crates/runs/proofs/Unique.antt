@@ -5,6 +5,7 @@ use denote.Ref.{now}
 use Rattle.runs.specs.Lane.{shows}
 use Rattle.runs.proofs.base.Reads as runs-base
 use Rattle.runs.proofs.make.Reads as runs-make
+use Rattle.runs.proofs.sync_at.Reads as runs-sync-at
 use Rattle.runs.proofs.begin.Reads as runs-begin
 use Rattle.runs.proofs.next.Reads as runs-next
 use Rattle.runs.proofs.reach.Reads as runs-reach
@@ -16,6 +17,9 @@ base-fixed κs a r q s t p o = p ∙ sym o
 
 make-fixed : (κs : _) (a : _) (r q : _) (s t : _) → runs-make.Post κs a r s → runs-make.Post κs a q t → r ≡ q
 make-fixed κs a r q s t p o = p ∙ sym o
+
+sync-at-fixed : (κs : _) (a : _) (r q : _) (s t : _) → runs-sync-at.Post κs a r s → runs-sync-at.Post κs a q t → r ≡ q
+sync-at-fixed κs a r q s t p o = p ∙ sym o
 
 begin-fixed : (κs : _) (a : _) (r q : _) (s t : _) → runs-begin.Post κs a r s → runs-begin.Post κs a q t → r ≡ q
 begin-fixed κs a r q s t p o = p ∙ sym o

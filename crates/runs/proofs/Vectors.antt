@@ -20,9 +20,9 @@ use Rattle.tfdt.specs.declared.Tfdt.{Tfdt}
 use Rattle.trun.specs.Trun.{optional, trunOf}
 use Rattle.trun.specs.declared.Trun.{Trun}
 use Rattle.runs.specs.Make.{baseOf, makeOf}
-use Rattle.runs.specs.Values.{ownOf, durationAt, sizeAt, flagsBy}
+use Rattle.runs.specs.Values.{ownOf, durationAt, sizeAt, flagsBy, flagsAt, syncBy}
 use Rattle.runs.specs.Samples.{sampleAt, runSamples, bytesIn, endOf, durationsIn, timeAfter}
-use Rattle.runs.specs.Lane.{left, shown}
+use Rattle.runs.specs.Lane.{left}
 use Rattle.runs.specs.declared.Run.{Run}
 use Rattle.runs.specs.declared.Lane.{Lane}
 use Rattle.runs.specs.declared.Made.the-variants.{Is, Refused}
@@ -174,6 +174,19 @@ by-own : runSamples (bytes 2 0 ++ bytes 4 0xfffe_ffff ++ bytes 4 0xffff_fffe) fl
 unfolding be bytes field when optional signed ownOf durationAt sizeAt flagsBy sampleAt runSamples
 by-own = refl
 
+sync-by-own : syncBy (flagsAt (bytes 2 0 ++ bytes 4 0xfffe_ffff ++ bytes 4 0xffff_fffe) flagged 0) ≡ true
+unfolding be bytes field when optional signed ownOf flagsBy
+sync-by-own = refl
+
+sync-first : syncBy (flagsAt [] silent 0) ≡ false
+unfolding be bytes field when optional signed ownOf flagsBy
+sync-first = refl
+
+-- past the count there is no sample, and the flags are the run's
+sync-later : syncBy (flagsAt [] silent 7) ≡ true
+unfolding be bytes field when optional signed ownOf flagsBy
+sync-later = refl
+
 -- an entry that the file does not hold whole says zeros
 not-whole : runSamples (bytes 2 0 ++ bytes 4 0xffff_ffff ++ bytes 3 0) flagged 0
     ≡ record { number = 1; offset = 100; size = 5; time = 0; duration = 4; composition = pos 0; sync = true } ∷ []
@@ -189,15 +202,15 @@ high = record { index = 0; number = 0xffff_fffe; offset = 100; time = 0 }
 abbrev higher : Lane
 higher = record { index = 1; number = 0xffff_ffff; offset = 105; time = 4 }
 
-last-number : shown (left [] silent high) ≡ list.one (record { number = 0xffff_ffff; offset = 100; size = 5; time = 0; duration = 4; composition = pos 0; sync = false }) (left [] silent higher)
+last-number : list.view (left [] silent high) ≡ list.one (record { number = 0xffff_ffff; offset = 100; size = 5; time = 0; duration = 4; composition = pos 0; sync = false }) (left [] silent higher)
 unfolding be bytes field when optional signed ownOf durationAt sizeAt flagsBy sampleAt left
 last-number = refl
 
-no-number : shown (left [] silent higher) ≡ list.over
+no-number : list.view (left [] silent higher) ≡ list.over
 unfolding be bytes field when optional signed ownOf durationAt sizeAt flagsBy sampleAt left
 no-number = refl
 
-lane-end : shown (left [] silent (record { index = 2; number = 2; offset = 110; time = 8 })) ≡ list.none
+lane-end : list.view (left [] silent (record { index = 2; number = 2; offset = 110; time = 8 })) ≡ list.none
 unfolding left
 lane-end = refl
 

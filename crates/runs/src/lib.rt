@@ -6,10 +6,11 @@ ghost use Prim.Native.Nat.{_+_};
 ghost use lib.ListN.{drop};
 ghost use Rattle.numbers.specs.Field.{when};
 ghost use Rattle.layout.specs.Rule.{isSet};
+ghost use Rattle.samples.specs.Lists.{view};
 ghost use Rattle.runs.specs.Make.{baseOf, startOf, placed, makeOf};
-ghost use Rattle.runs.specs.Values.{ownOf, durationAt, sizeAt, flagsBy, syncBy};
+ghost use Rattle.runs.specs.Values.{ownOf, durationAt, sizeAt, flagsBy, flagsAt, syncBy};
 ghost use Rattle.runs.specs.Samples.{bytesIn, endBy, endOf, durationsIn};
-ghost use Rattle.runs.specs.Lane.{begun, left, shown, shows, upTo, upToBy};
+ghost use Rattle.runs.specs.Lane.{begun, left, shows, upTo, upToBy};
 use numbers::Refusal;
 use samples::Sample;
 use tfdt::Tfdt;
@@ -239,6 +240,15 @@ fn is_sync(flags: u32) -> bool
     true
 }
 
+// Whether the i-th sample is sync, by its flags alone: what comes before it is not looked at.
+pub fn sync_at(file: &[u8], run: Run, i: u32) -> bool
+    ensures { λ r. ⌜ r ≡ syncBy (flagsAt (now (file .entry)) run i) ⌝ }
+{
+    let mine = own(file, run, i);
+    let set = flags_of(run, mine.flags, i);
+    is_sync(set)
+}
+
 // A cursor in a run. index: the next sample, counted from 0 in the run; number: how many samples came before it, in this
 // run and before it; offset and time: its own.
 pub struct Lane {
@@ -270,7 +280,7 @@ pub fn begin(run: Run, number: u32) -> Lane
 // The next sample of the run, and the lane after it, which knows as well as the one before how many samples there are
 // up to the run's end.
 pub fn next(file: &[u8], run: Run, lane: Lane) -> Taken
-    ensures sample { λ r. ⌜ shows (now (file .entry)) run r ≡ shown (left (now (file .entry)) run lane) ⌝ }
+    ensures sample { λ r. ⌜ shows (now (file .entry)) run r ≡ view (left (now (file .entry)) run lane) ⌝ }
     ensures number { λ r. ⌜ upToBy run r (upTo run lane) ≡ upTo run lane ⌝ }
 {
     let trun = run.trun;

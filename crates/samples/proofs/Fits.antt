@@ -3,10 +3,11 @@ use Prim.Native.Nat.{ℕ, _+_, _^_, _≤_, _<_}
 use mathlib.Core.Path.{_≡_, refl, ap, ap₂, _∙_}
 use mathlib.Core.List.{List, _∷_}
 use mathlib.Core.Bool.{Bool, true, false, _&&_}
+use native.Mathlib.Omega.{arith}
 use lib.Dec.{ltb}
-use borrow.Author.Tests.{lt-ltb, le-ltb}
+use borrow.Author.Tests.{lt-ltb, le-ltb, ltb-true}
 use Rattle.numbers.specs.Field.{when}
-use Rattle.samples.specs.Lists.{held, View, over, one, view}
+use Rattle.samples.specs.Lists.{held, over, one, view}
 use Rattle.samples.specs.declared.Sample.{Sample}
 
 and-false : (x : Bool) → (x && false) ≡ false
@@ -32,6 +33,13 @@ module _ (s : Sample) where
       ap (λ (x : Bool). ltb (s .number) (2 ^ 32) && (ltb (s .offset + s .size) (2 ^ 64) && x)) (le-ltb (s .time) (2 ^ 63) h)
       ∙ ap (λ (x : Bool). ltb (s .number) (2 ^ 32) && x) (and-false (ltb (s .offset + s .size) (2 ^ 64)))
       ∙ and-false (ltb (s .number) (2 ^ 32))
+
+  pub number-held : held s ≡ true → s .number < 2 ^ 32
+  number-held e = cases (ltb (s .number) (2 ^ 32)) refl e
+    where
+      cases : (b : Bool) → ltb (s .number) (2 ^ 32) ≡ b → (b && (ltb (s .offset + s .size) (2 ^ 64) && ltb (s .time) (2 ^ 63))) ≡ true → s .number < 2 ^ 32
+      cases true q h = ltb-true (s .number) (2 ^ 32) q
+      cases false q h = let z : _≡_ {A = ℕ} 0 1 = cc in absurd (omega arith)
 
   module _ (l : List Sample) where
     pub view-held : held s ≡ true → view (s ∷ l) ≡ one s l

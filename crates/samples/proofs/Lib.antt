@@ -1,4 +1,5 @@
 pub mod Fits
+pub mod Views
 pub mod Complement
 pub mod Stored
 pub mod Unique

@@ -1,13 +1,11 @@
 -- A record that is stored number by number is the record of the definition. Assumes nothing.
 use Prim.Native.Nat.{ℕ, suc, _+_, _*_, _/_, _≤_, _<_}
-use mathlib.Core.Path.{_≡_, refl, sym, ap, ap₂, _∙_}
-use mathlib.Core.List.{List, [], _∷_}
-use mathlib.Core.Bool.{Bool}
+use mathlib.Core.Path.{_≡_, refl}
+use mathlib.Core.List.{List}
 use native.Mathlib.Omega.{arith}
 use lib.ListN.{length, set}
-use lib.Seq.{sets}
 use Rattle.numbers.proofs.Chain.{is-le, not-le}
-use Rattle.samples.specs.Records.{bitsOf, bitOf, numbersOf, putOf}
+use Rattle.samples.specs.Records.{bitsOf, bitOf, putOf}
 use Rattle.samples.specs.declared.Sample.{Sample}
 
 module _ (o : List ℕ) (i : ℕ) (s : Sample) where

@@ -6,6 +6,7 @@ use lib.ListN.{drop}
 use borrow.Author.Needs.{needs}
 use Rattle.runlookup.proofs.Stuck.{past-end, walk-begins, walk-on, walk-over, walk-end}
 use Rattle.runs.specs.Samples.{runSamples}
+use Rattle.samples.specs.Lists.{view}
 use Rattle.runs.specs.Lane as inner
 use Rattle.runlookup.proofs.nth.Statement.{statement}
 use Rattle.runlookup.proofs.nth.Tie as tie
@@ -56,7 +57,7 @@ next-requires-2 : tie.Need-next-requires-2 Inv-loop μ-loop
 next-requires-2 c κs = search needs
 
 returns-4 : tie.Need-returns-4 Inv-loop μ-loop
-returns-4 c = c .next2 .ensures .0 ∙ ap inner.shown (c .before .before .loop .inv .0) ∙ ap (λ k. inner.shown (drop k (runSamples (c .before .before .before .before .before .before .before .before .args .file .now) (c .before .before .before .before .before .before .before .before .args .run) (c .before .before .before .before .before .before .before .before .args .earlier)))) (le-antisymm (c .before .before .loop .inv .1) (c .before .loop-test .left))
+returns-4 c = c .next2 .ensures .0 ∙ ap view (c .before .before .loop .inv .0) ∙ ap (λ k. view (drop k (runSamples (c .before .before .before .before .before .before .before .before .args .file .now) (c .before .before .before .before .before .before .before .before .args .run) (c .before .before .before .before .before .before .before .before .args .earlier)))) (le-antisymm (c .before .before .loop .inv .1) (c .before .loop-test .left))
 
 pub nth-spec : {M : Type 1} → statement M
 nth-spec =

@@ -38,7 +38,7 @@ returns-3 : tie.Need-returns-3
 returns-3 c = place-one (c .before .before .before .before .before .before .before .before .before .before .before .before .args .file .now) (rowsOf (c .before .before .before .before .before .before .before .before .before .before .before .before .args .table .now) (c .before .before .before .before .before .before .before .before .before .before .before .before .args .n)) (c .before .before .before .before .before .before .before .before .before .before .before .before .args .track) (c .before .before .before .before .before .before .before .before .before .before .before .before .args .number) (c .before .before .before .before .before .before .before .before .before .if1 .left) _ (c .before .before .before .before .before .before .before .before .place-of .ensures) _ _ _ (c .before .before .before .before .before .before .run .given .1) (c .before .before .before .before .nth .result) (c .before .before .before .before .nth .ensures) _ _ _ (c .before .before .sample .given .1) (search needs)
 
 returns-4 : tie.Need-returns-4
-returns-4 c = place-over (c .before .before .before .before .before .before .before .before .before .before .args .file .now) (rowsOf (c .before .before .before .before .before .before .before .before .before .before .args .table .now) (c .before .before .before .before .before .before .before .before .before .before .args .n)) (c .before .before .before .before .before .before .before .before .before .before .args .track) (c .before .before .before .before .before .before .before .before .before .before .args .number) (c .before .before .before .before .before .before .before .if1 .left) _ (c .before .before .before .before .before .before .place-of .ensures) _ _ _ (c .before .before .before .before .run .given .1) (c .before .before .nth .result) (c .before .before .nth .ensures) (c .before .before .before .before .before .before .before .before .before .before .fits .number .fits) (c .enum-told2 .given .1)
+returns-4 c = place-over (c .before .before .before .before .before .before .before .before .before .before .args .file .now) (rowsOf (c .before .before .before .before .before .before .before .before .before .before .args .table .now) (c .before .before .before .before .before .before .before .before .before .before .args .n)) (c .before .before .before .before .before .before .before .before .before .before .args .track) (c .before .before .before .before .before .before .before .before .before .before .args .number) (c .before .before .before .before .before .before .before .if1 .left) _ (c .before .before .before .before .before .before .place-of .ensures) _ _ _ (c .before .before .before .before .run .given .1) (c .before .before .nth .result) (c .before .before .nth .ensures) (c .enum-told2 .given .1)
 
 returns-5 : tie.Need-returns-5
 returns-5 c = place-end (c .before .before .before .before .before .before .before .before .before .before .args .file .now) (rowsOf (c .before .before .before .before .before .before .before .before .before .before .args .table .now) (c .before .before .before .before .before .before .before .before .before .before .args .n)) (c .before .before .before .before .before .before .before .before .before .before .args .track) (c .before .before .before .before .before .before .before .before .before .before .args .number) (c .before .before .before .before .before .before .before .if1 .left) _ (c .before .before .before .before .before .before .place-of .ensures) _ _ _ (c .before .before .before .before .run .given .1) (c .before .before .nth .result) (c .before .before .nth .ensures) (c .enum-told3 .given .1)
