@@ -1,5 +1,5 @@
-// Whether the tables of a track agree: how many samples there are, and that no number points past them or past the
-// chunks. Entries are passed over whole, and no size is visited. Nothing is refused here.
+// Whether the tables of a track agree on how many samples there are, and have no number past the last sample or chunk.
+// An entry is visited once, one of stsc twice; a size never. Nothing is refused here.
 ghost use mathlib.Core.Path.{_≡_};
 ghost use Rattle.tables.specs.Tables.{syncs};
 ghost use Rattle.agree.specs.Agree.{timesCount, shiftsCount, chunksCount, within, heads, syncsWithin, agreeOf};
