@@ -15,10 +15,10 @@ use Rattle.samples.specs.Lists.{allHeld}
 use Rattle.samples.specs.Records.{numbersOf, recordsOf, output, listOf}
 use Rattle.samples.specs.declared.Sample.{Sample}
 use Rattle.samples.specs.declared.Listed.the-variants.{Done, Refused}
-use Rattle.tables.specs.Tables.{sum, valuesOf, pairs, groups}
+use Rattle.tables.specs.Tables.{sum, total, valuesOf, pairs, groups}
 use Rattle.tables.specs.Samples.{samplesOf}
 use Rattle.tables.specs.declared.Track.{Track}
-use Rattle.tables.proofs.Lengths.{total, how-many}
+use Rattle.tables.proofs.Lengths.{how-many}
 
 -- stsz, stts and stsc agree on how many samples there are (F1 has no finding): there are as many
 pub agreed : (f : List ℕ) (t : Track) → total (pairs f (t .stts)) ≡ t .stsz .count

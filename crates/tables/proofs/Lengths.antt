@@ -4,7 +4,7 @@ use mathlib.Core.Path.{_≡_, refl, ap, _∙_}
 use mathlib.Core.List.{List, [], _∷_}
 use native.Mathlib.Omega.{arith}
 use lib.ListN.{length, take, drop, replicate, length-append, length-take, length-drop, length-replicate}
-use Rattle.tables.specs.Tables.{sum, valuesOf, pairs, groups, chunks, sizes, sizeAt, offsetAt, shifts, Syncs, syncs}
+use Rattle.tables.specs.Tables.{sum, total, valuesOf, pairs, groups, chunks, sizes, sizeAt, offsetAt, shifts, Syncs, syncs}
 use Rattle.tables.specs.Samples.{starts, place, rest, pastOf, zipped, samplesOf}
 use Rattle.tables.specs.declared.Row.{Row}
 use Rattle.tables.specs.declared.Track.{Track}
@@ -15,11 +15,6 @@ length-zipped n m [] ds os cs ys = omega arith
 length-zipped n m (z ∷ ss) [] os cs ys = omega arith
 length-zipped n m (z ∷ ss) (d ∷ ds) [] cs ys = omega arith
 length-zipped n m (z ∷ ss) (d ∷ ds) (o ∷ os) cs ys = omega (arith, length-zipped (n + 1) (m + d) ss ds os (rest cs) (pastOf ys (n + 1)))
-
--- the rows' counts together
-abbrev pub total : List Row → ℕ
-total [] = 0
-total (r ∷ rs) = r .count + total rs
 
 pub length-values : (rs : List Row) → length (valuesOf rs) ≡ total rs
 length-values [] = refl

@@ -29,6 +29,11 @@ sum (n ∷ ns) = n + sum ns
 
 -- RUNS: so many of one value, a row
 
+-- the rows' counts together
+abbrev pub total : List Row → ℕ
+total [] = 0
+total (r ∷ rs) = r .count + total rs
+
 -- each value as often as its row counts; a row that counts 0 has none (A53)
 abbrev pub valuesOf : List Row → List ℕ
 valuesOf [] = []

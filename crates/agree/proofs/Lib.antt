@@ -1,0 +1,4 @@
+pub mod Cases
+pub mod Theorems
+mod Vectors
+mod Unique
