@@ -1,5 +1,5 @@
-// How many samples a track of a fragmented file has, their bytes, and one of them by its number: the rows are walked by
-// their counts, then the samples of one run.
+// How many samples a track of a fragmented file has, their bytes, one of them by its number, and whether it is sync: the
+// rows are walked by their counts, then, for the sample, those of one run.
 ghost use mathlib.Core.Path.{_≡_};
 ghost use Prim.Native.Nat.{_+_};
 ghost use lib.ListN.{drop};
