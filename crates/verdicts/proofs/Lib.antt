@@ -1,0 +1,4 @@
+pub mod Vectors
+pub mod Laws
+pub mod Sound
+pub mod Complete
