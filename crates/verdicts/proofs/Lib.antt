@@ -2,3 +2,6 @@ pub mod Vectors
 pub mod Laws
 pub mod Sound
 pub mod Complete
+pub mod Steps
+pub mod Passing
+pub mod Following

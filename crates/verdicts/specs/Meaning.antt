@@ -65,6 +65,13 @@ Earlier s u = s .offset + s .size ≤ u .offset
 abbrev pub Lasts : Sample → Sample → Type 0
 Lasts s u = 0 < s .duration
 
+-- u comes when s is over; u comes later
+abbrev pub Next : Sample → Sample → Type 0
+Next s u = u .time ≡ s .time + s .duration
+
+abbrev pub Later : Sample → Sample → Type 0
+Later s u = s .time < u .time
+
 -- payloads in the order of the file, as mdats have them
 abbrev pub InOrder : List Span → Type 0
 InOrder [] = Unit {0}
