@@ -5,3 +5,6 @@ pub mod Complete
 pub mod Steps
 pub mod Passing
 pub mod Following
+pub mod Sizes
+pub mod Clean
+pub mod Order
