@@ -9,9 +9,9 @@ use lib.ListN.{length}
 use Rattle.samples.specs.declared.Sample.{Sample}
 use Rattle.verdicts.specs.Findings.{Track, samplesOf, Span, Answer, passes, found, firstFound}
 use Rattle.verdicts.specs.declared.Finding.{Finding}
-use Rattle.verdicts.specs.Sweep.{total, sweep}
+use Rattle.verdicts.specs.Sweep.{total, bytes, sweep}
 use Rattle.verdicts.specs.Fragments.{Moof, follow}
-use Rattle.verdicts.specs.Audit.{agreements, passed, questions, bytes, verdict, auditOf}
+use Rattle.verdicts.specs.Audit.{agreements, passed, questions, verdict, auditOf}
 use Rattle.verdicts.specs.Meaning.{All, Neighbours, NeighboursIn, Good, Lasts, Next, Later, InOrder, CleanFile, sizesOf}
 use Rattle.verdicts.specs.declared.Verdict.{Verdict}
 use Rattle.verdicts.specs.declared.Verdict.the-variants.{Clean, Found}
@@ -91,9 +91,10 @@ abbrev Of : (Sample → Sample → Type 0) → Track → Type 0
 Of R t = Neighbours R (samplesOf t)
 
 pub lasting-rises : (ts : List Track) → NeighboursIn Next ts → NeighboursIn Lasts ts ↔ NeighboursIn Later ts
-lasting-rises ts n =
-    (all-map₂ (Of Next) (Of Lasts) (Of Later) (λ t. rising (samplesOf t)) ts n,
-    all-map₂ (Of Next) (Of Later) (Of Lasts) (λ t. moving (samplesOf t)) ts n)
+lasting-rises ts n = (
+  all-map₂ (Of Next) (Of Lasts) (Of Later) (λ t. rising (samplesOf t)) ts n,
+  all-map₂ (Of Next) (Of Later) (Of Lasts) (λ t. moving (samplesOf t)) ts n,
+)
 
 -- decode times of a clean file strictly rise
 pub audit-rises : (ts : List Track) (m : List Span) (fs : List Moof) (a b c : ℕ) → InOrder m → NeighboursIn Next ts → auditOf ts m fs ≡ Clean a b c

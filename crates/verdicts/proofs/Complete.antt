@@ -111,7 +111,7 @@ module _ (c : Span) (m : List Span) (ts : List Track) (o : InOrder (c ∷ m)) (l
                   k,
                   h .once (u .offset) (inl (w .0, omega (arith, g .0))),
                   sum-one c m ts x o he x-fits (holds (u .offset)),
-                  holds-in (u .offset) (x .sample) (omega (arith, at-p)) (omega (arith, at-p, ltb-true (u .offset) (c .from + x .sample .size) e))
+                  holds-in (u .offset) (x .sample) (omega (arith, at-p)) (omega (arith, at-p, ltb-true (u .offset) (c .from + x .sample .size) e)),
                 ))
             cases false e = inl (ltb-false (u .offset) (c .from + x .sample .size) e, w .1)
 
@@ -134,7 +134,7 @@ module _ (c : Span) (m : List Span) (ts : List Track) (o : InOrder (c ∷ m)) (l
               arith,
               h .once b (inr w),
               sum-one c m ts x o he x-fits (holds b),
-              holds-above b (x .sample) (omega (arith, at-p, x-fits, some-from (c .to) b m (o .1) (o .2) w))
+              holds-above b (x .sample) (omega (arith, at-p, x-fits, some-from (c .to) b m (o .1) (o .2) w)),
             )
 
 nothing-left : (all : List Span) (ts : List Track) → AllIn (Good []) ts → leftover all ts ≡ passes

@@ -79,18 +79,21 @@ OnTime ms c = TimesFrom (c .next) (trafsOf (c .track) ms)
 clocks-sound : (m : Moof) (ms : List Moof) (cs : List Clock) → All Passing (timedAll m cs) → All (OnTime ms) (clocksAfter m cs) → All (OnTime (m ∷ ms)) cs
 clocks-sound m ms [] h k = tt
 clocks-sound m ms (c ∷ cs) h k =
-    let j = all-split Passing (timed (m .start) (c .track) (c .next) (ownTrafs (c .track) (m .trafs))) (timedAll m cs) h in
-    (times-join (c .next) (ownTrafs (c .track) (m .trafs)) (trafsOf (c .track) ms)
-    (timed-sound (m .start) (c .track) (c .next) (ownTrafs (c .track) (m .trafs)) (j .0)) (k .0), clocks-sound m ms cs (j .1) (k .1))
+    let j = all-split Passing (timed (m .start) (c .track) (c .next) (ownTrafs (c .track) (m .trafs))) (timedAll m cs) h in (
+      times-join (c .next) (ownTrafs (c .track) (m .trafs)) (trafsOf (c .track) ms)
+          (timed-sound (m .start) (c .track) (c .next) (ownTrafs (c .track) (m .trafs)) (j .0)) (k .0),
+      clocks-sound m ms cs (j .1) (k .1),
+    )
 
 clocks-complete : (m : Moof) (ms : List Moof) (cs : List Clock) → All (OnTime (m ∷ ms)) cs → All Passing (timedAll m cs) × All (OnTime ms) (clocksAfter m cs)
 clocks-complete m ms [] h = (tt, tt)
 clocks-complete m ms (c ∷ cs) h =
     let own = ownTrafs (c .track) (m .trafs) in
     let j = times-split (c .next) own (trafsOf (c .track) ms) (h .0) in
-    let i = clocks-complete m ms cs (h .1) in
-    (all-join Passing (timed (m .start) (c .track) (c .next) own) (timedAll m cs) (timed-complete (m .start) (c .track) (c .next) own (j .0)) (i .0),
-    (j .1, i .1))
+    let i = clocks-complete m ms cs (h .1) in (
+      all-join Passing (timed (m .start) (c .track) (c .next) own) (timedAll m cs) (timed-complete (m .start) (c .track) (c .next) own (j .0)) (i .0),
+      (j .1, i .1),
+    )
 
 from-sound : (d : Due) (cs : List Clock) (ms : List Moof) → All Passing (followFrom d cs ms) → NumbersFrom d ms × All (OnTime ms) cs
 from-sound d cs [] h = (tt, nothing cs)
@@ -106,10 +109,11 @@ from-sound d cs (m ∷ ms) h =
 from-complete : (d : Due) (cs : List Clock) (ms : List Moof) → NumbersFrom d ms → All (OnTime ms) cs → All Passing (followFrom d cs ms)
 from-complete d cs [] h k = tt
 from-complete d cs (m ∷ ms) h k =
-    let j = clocks-complete m ms cs k in
-    (true-passes (F7 (m .start)) (fits d (m .number)) (true-fits d (m .number) (h .0)),
-    all-join Passing (timedAll m cs) (followFrom (due (nextNumber (m .number))) (clocksAfter m cs) ms) (j .0)
-    (from-complete (due (nextNumber (m .number))) (clocksAfter m cs) ms (h .1) (j .1)))
+    let j = clocks-complete m ms cs k in (
+      true-passes (F7 (m .start)) (fits d (m .number)) (true-fits d (m .number) (h .0)),
+      all-join Passing (timedAll m cs) (followFrom (due (nextNumber (m .number))) (clocksAfter m cs) ms) (j .0)
+          (from-complete (due (nextNumber (m .number))) (clocksAfter m cs) ms (h .1) (j .1)),
+    )
 
 -- every track's clock begins free
 

@@ -12,8 +12,7 @@ use Rattle.numbers.specs.Field.{when}
 use Rattle.samples.specs.Lists.{bytesOf}
 use Rattle.samples.specs.declared.Sample.{Sample}
 use Rattle.verdicts.specs.Findings.{Track, track, Claim, Span, F4, Answer, passes, found}
-use Rattle.verdicts.specs.Sweep.{below, heads, advance, leftover, stop, go, rest, take, step, cont, run, sumIn, sumAll, total, sweepFrom}
-use Rattle.verdicts.specs.Audit.{bytes}
+use Rattle.verdicts.specs.Sweep.{below, heads, advance, leftover, stop, go, rest, take, step, cont, run, sumIn, sumAll, total, bytes, sweepFrom}
 use Rattle.verdicts.specs.Meaning.{InOrder, Covered, sizesOf}
 use Rattle.verdicts.proofs.Sound.{not-passes, sum-one}
 use Rattle.verdicts.proofs.Complete.{sweep-complete}
@@ -43,7 +42,7 @@ module _ (all : List Span) (k : List Span → List Track → Answer)
           omega (
             arith,
             sum-one c m ts x o he fits (λ s. s .size),
-            ih (rest c (x .sample .size) ∷ m) (advance (c .from) ts) (fits, o .1, o .2) e
+            ih (rest c (x .sample .size) ∷ m) (advance (c .from) ts) (fits, o .1, o .2) e,
           )
       cases false t e = absurd (not-passes _ e)
 

@@ -81,7 +81,7 @@ module _ (c : Span) (m : List Span) (ts : List Track) (x : Claim) (o : InOrder (
               arith,
               sum-one (holds b),
               holds-in b (x .sample) (omega (arith, starts-at)) (omega (arith, starts-at, l)),
-              count-later (c .from + x .sample .size) b (advance (c .from) ts) l later
+              count-later (c .from + x .sample .size) b (advance (c .from) ts) l later,
             )
         cases false e =
             let l = ltb-false b (c .from + x .sample .size) e in
@@ -91,7 +91,7 @@ module _ (c : Span) (m : List Span) (ts : List Track) (x : Claim) (o : InOrder (
           arith,
           sum-one (holds b),
           holds-above b (x .sample) (omega (arith, starts-at, some-from (c .to) b m (o .1) (o .2) w)),
-          h .once b (inr w)
+          h .once b (inr w),
         )
 
     covered-take : Covered (c ∷ m) ts

@@ -1,13 +1,13 @@
 -- The audit of a file, by the tracks of its moov, the payloads of its mdats and its moofs, each in the order of the file
 -- (01, Audit findings): its questions in 01's order, and the first that finds. Assumes nothing.
-use Prim.Native.Nat.{ℕ, _+_, _-_}
+use Prim.Native.Nat.{ℕ}
 use mathlib.Core.List.{List, [], _∷_, _++_}
 use lib.ListN.{length}
 use lib.Dec.{eqb}
 use Rattle.numbers.specs.Field.{when}
 use Rattle.samples.specs.declared.Sample.{Sample}
 use Rattle.verdicts.specs.Findings.{Track, track, Claim, claim, Span, F1, F2, F3, Answer, passes, found, firstFound}
-use Rattle.verdicts.specs.Sweep.{total, sweep}
+use Rattle.verdicts.specs.Sweep.{total, bytes, sweep}
 use Rattle.verdicts.specs.Fragments.{Moof, follow}
 use Rattle.verdicts.specs.declared.Verdict.{Verdict}
 use Rattle.verdicts.specs.declared.Verdict.the-variants.{Clean, Found}
@@ -36,11 +36,6 @@ passed (track n a l ∷ ts) = passedIn n l ++ passed ts
 -- every question, in 01's order
 unfoldable pub questions : List Track → List Span → List Moof → List Answer
 questions ts m fs = agreements ts ++ (passed ts ++ (sweep m ts ∷ follow ts fs))
-
--- the bytes of payloads
-abbrev pub bytes : List Span → ℕ
-bytes [] = 0
-bytes (c ∷ m) = (c .to - c .from) + bytes m
 
 -- clean tells how much it is about (A66)
 abbrev pub verdict : List Track → List Span → Answer → Verdict

@@ -1,7 +1,7 @@
 -- The sweep, F4 to F6 (01, Sweep; A36, A37, A41): p goes through the payloads, and every byte that it comes to must be
 -- the first of one sample. What is kept is what is left: of the payload that p is in from p on, of the payloads after
 -- it, and of each track's samples. Assumes nothing.
-use Prim.Native.Nat.{ℕ, zero, suc, _+_}
+use Prim.Native.Nat.{ℕ, zero, suc, _+_, _-_}
 use mathlib.Core.List.{List, [], _∷_}
 use mathlib.Core.Bool.{Bool, false, _&&_, _||_}
 use lib.ListN.{length}
@@ -86,6 +86,11 @@ sumAll f (track n a l ∷ ts) = sumIn f l + sumAll f ts
 -- how many samples there are
 abbrev pub total : List Track → ℕ
 total ts = sumAll (λ s. 1) ts
+
+-- the bytes of payloads
+abbrev pub bytes : List Span → ℕ
+bytes [] = 0
+bytes (c ∷ m) = (c .to - c .from) + bytes m
 
 -- the answer from a state on
 unfoldable pub sweepFrom : List Span → List Span → List Track → Answer

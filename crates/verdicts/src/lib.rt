@@ -13,6 +13,10 @@ pub struct Finding {
 
 // Clean tells how much it is about: so many tracks, samples and bytes of media data.
 pub enum Verdict {
-    Clean { tracks: u32, samples: u64, media: u64 },
+    Clean {
+        tracks: u32,
+        samples: u64,
+        media: u64,
+    },
     Found(Finding),
 }
