@@ -13,7 +13,6 @@ use Rattle.verdicts.specs.Sweep.{total, bytes, sweep}
 use Rattle.verdicts.specs.Fragments.{Moof, follow}
 use Rattle.verdicts.specs.Audit.{agreements, passed, questions, verdict, auditOf}
 use Rattle.verdicts.specs.Meaning.{All, Neighbours, NeighboursIn, Good, Lasts, Next, Later, InOrder, CleanFile, sizesOf}
-use Rattle.verdicts.specs.declared.Verdict.{Verdict}
 use Rattle.verdicts.specs.declared.Verdict.the-variants.{Clean, Found}
 use Rattle.verdicts.proofs.Laws.{all-map₂, alls-map, all-join, all-split}
 use Rattle.verdicts.proofs.Sound.{sweep-sound}

@@ -1,12 +1,12 @@
 -- Where the media data are covered, the sweep passes: each step goes on, and what it leaves is covered. Assumes nothing.
-use Prim.Native.Nat.{ℕ, zero, suc, _+_, _-_, _≤_, _<_}
-use mathlib.Core.Path.{_≡_, refl, sym, _∙_, ap, subst}
+use Prim.Native.Nat.{ℕ, zero, suc, _+_, _≤_, _<_}
+use mathlib.Core.Path.{_≡_, refl, sym, _∙_, subst}
 use mathlib.Core.Logic.{_⊎_, inl, inr, ⊎-elim}
 use mathlib.Core.List.{List, [], _∷_}
 use mathlib.Core.Bool.{Bool, true, false}
 use native.Mathlib.Omega.{arith}
 use lib.ListN.{length}
-use lib.Dec.{ltb, leb, eqb}
+use lib.Dec.{ltb, eqb}
 use borrow.Author.Tests.{ltb-true, ltb-false, eqb-true, eqb-false, le-ltb, le-leb}
 use Rattle.numbers.specs.Field.{when}
 use Rattle.samples.specs.declared.Sample.{Sample}
@@ -14,7 +14,7 @@ use Rattle.verdicts.specs.Findings.{Track, track, samplesOf, Claim, clai
 use Rattle.verdicts.specs.Sweep.{below, heads, advance, leftover, go, rest, take, step, cont, run, sumIn, total, sweepFrom, sweep}
 use Rattle.verdicts.specs.Meaning.{All, First, Neighbours, AllIn, NeighboursIn, holds, count, InSome, Within, Good, Earlier, InOrder, Covered}
 use Rattle.verdicts.proofs.Laws.{all-map, all-map₂, alls-map, holds-in, holds-below, holds-above, sum-later, within-from, some-from, AllOf, all-forth, heads-at, order-forth}
-use Rattle.verdicts.proofs.Sound.{NonEmpty, starts-at, sum-one}
+use Rattle.verdicts.proofs.Sound.{NonEmpty, sum-one}
 
 -- none starts below p
 below-none : (p : ℕ) (ts : List Track) → AllIn (λ s. p ≤ s .offset) ts → below p ts ≡ []

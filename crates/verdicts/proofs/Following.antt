@@ -2,10 +2,10 @@
 use Prim.Native.Nat.{ℕ, _+_}
 use mathlib.Core.Path.{_≡_, refl}
 use mathlib.Core.List.{List, [], _∷_, _++_}
-use mathlib.Core.Bool.{Bool, true, false}
+use mathlib.Core.Bool.{true}
 use borrow.Author.Tests.{eqb-true, eq-eqb}
 use Rattle.verdicts.specs.Findings.{Track, track, F7, F8}
-use Rattle.verdicts.specs.Fragments.{Traf, Moof, Due, free, due, fits, gapOf, nextNumber, nextTime, Clock, clocksOf, ownTrafs, numbered, timed, dueAfter, timedAll, clocksAfter, followFrom, follow}
+use Rattle.verdicts.specs.Fragments.{Traf, Moof, Due, free, due, fits, gapOf, nextNumber, nextTime, Clock, clocksOf, ownTrafs, timed, dueAfter, timedAll, clocksAfter, followFrom, follow}
 use Rattle.verdicts.specs.Meaning.{All, First, Neighbours, trafsOf, FollowsInTime}
 use Rattle.verdicts.proofs.Laws.{all-join, all-split}
 use Rattle.verdicts.proofs.Passing.{Passing, passes-true, true-passes}

@@ -1,16 +1,16 @@
 -- Laws of lists of tracks: of their samples, of one byte, of payloads, and of what `advance` leaves. Assumes nothing.
-use Prim.Native.Nat.{ℕ, _+_, _-_, _≤_, _<_}
-use mathlib.Core.Path.{_≡_, refl, sym, _∙_, ap}
-use mathlib.Core.Logic.{_⊎_, inl, inr}
+use Prim.Native.Nat.{ℕ, _+_, _≤_, _<_}
+use mathlib.Core.Path.{_≡_, refl}
+use mathlib.Core.Logic.{inl, inr}
 use mathlib.Core.List.{List, [], _∷_, _++_}
 use mathlib.Core.Bool.{Bool, true, false, _&&_}
 use native.Mathlib.Omega.{arith}
-use lib.Dec.{ltb, leb, eqb}
+use lib.Dec.{eqb}
 use borrow.Author.Tests.{eqb-true, lt-ltb, le-ltb, le-leb, lt-leb}
 use Rattle.numbers.specs.Field.{when}
 use Rattle.samples.specs.declared.Sample.{Sample}
 use Rattle.verdicts.specs.Findings.{Track, track, samplesOf, Claim, claim, Span}
-use Rattle.verdicts.specs.Sweep.{below, heads, advance, sumIn, sumAll}
+use Rattle.verdicts.specs.Sweep.{heads, advance, sumIn, sumAll}
 use Rattle.verdicts.specs.Meaning.{All, First, Neighbours, AllIn, NeighboursIn, holds, count, InSome, Within, Earlier, InOrder}
 
 -- ALL

@@ -3,6 +3,7 @@ pub mod Laws
 pub mod Sound
 pub mod Complete
 pub mod Steps
+pub mod Swept
 pub mod Passing
 pub mod Following
 pub mod Sizes

@@ -1,7 +1,7 @@
 -- Questions that all pass: F1 for every track; F2 and F3 for every sample. Assumes nothing.
 use Prim.Native.Nat.{ℕ, _<_}
 use mathlib.Core.Path.{_≡_, refl, ap}
-use mathlib.Core.List.{List, [], _∷_, _++_}
+use mathlib.Core.List.{List, [], _∷_}
 use mathlib.Core.Bool.{Bool, true, false}
 use native.Mathlib.Omega.{arith}
 use lib.Dec.{eqb}
@@ -11,7 +11,7 @@ use Rattle.samples.specs.declared.Sample.{Sample}
 use Rattle.verdicts.specs.Findings.{Track, track, claim, F1, F2, F3, Answer, passes, found, firstFound}
 use Rattle.verdicts.specs.declared.Finding.{Finding}
 use Rattle.verdicts.specs.Audit.{agreements, sized, lasting, passedIn, passed}
-use Rattle.verdicts.specs.Meaning.{All, First, Neighbours, AllIn, NeighboursIn, Lasts, Agrees}
+use Rattle.verdicts.specs.Meaning.{All, Neighbours, NeighboursIn, Lasts, Agrees}
 use Rattle.verdicts.proofs.Laws.{all-join, all-split}
 use Rattle.verdicts.proofs.Sound.{not-passes, NonEmpty}
 

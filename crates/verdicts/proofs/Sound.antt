@@ -1,7 +1,7 @@
 -- A sweep that passes: the media data are covered. Each step's law says that what is left before it is covered if what
 -- is left after it is. Assumes nothing.
-use Prim.Native.Nat.{ℕ, zero, suc, _+_, _-_, _≤_, _<_}
-use mathlib.Core.Path.{_≡_, refl, sym, _∙_, ap, subst}
+use Prim.Native.Nat.{ℕ, zero, suc, _+_, _≤_, _<_}
+use mathlib.Core.Path.{_≡_, refl, ap, subst}
 use mathlib.Core.Logic.{_⊎_, inl, inr, ⊎-elim}
 use mathlib.Core.List.{List, [], _∷_}
 use mathlib.Core.Bool.{Bool, true, false}
@@ -11,10 +11,10 @@ use lib.Dec.{ltb, leb, eqb}
 use borrow.Author.Tests.{ltb-true, ltb-false, leb-true, eqb-true}
 use Rattle.numbers.specs.Field.{when}
 use Rattle.samples.specs.declared.Sample.{Sample}
-use Rattle.verdicts.specs.Findings.{Track, track, Claim, claim, Span, F4, Answer, passes, found}
+use Rattle.verdicts.specs.Findings.{Track, track, Claim, Span, F4, Answer, passes, found}
 use Rattle.verdicts.specs.declared.Finding.{Finding}
 use Rattle.verdicts.specs.Sweep.{below, heads, advance, leftover, stop, go, rest, take, step, cont, run, sumAll, total, sweepFrom, sweep}
-use Rattle.verdicts.specs.Meaning.{All, AllIn, NeighboursIn, holds, count, InSome, Within, Good, Earlier, InOrder, Covered}
+use Rattle.verdicts.specs.Meaning.{AllIn, NeighboursIn, holds, count, InSome, Good, Earlier, InOrder, Covered}
 use Rattle.verdicts.proofs.Laws.{alls-map, holds-in, holds-above, count-later, within-from, some-from, sumOf, AllOf, sum-advance, all-back, all-forth, heads-at, order-back}
 
 pub not-passes : (f : Finding) → found f ≡ passes → ⊥

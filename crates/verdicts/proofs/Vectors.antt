@@ -1,6 +1,6 @@
 -- Worked examples of the audit: 01's cases 2, 7 and 8 with their changed forms, and one for each way that a question may
 -- go. Assumes nothing.
-use Prim.Native.Nat.{ℕ, suc, _+_, _*_}
+use Prim.Native.Nat.{ℕ, _*_}
 use mathlib.Core.Path.{_≡_, refl}
 use mathlib.Core.List.{List, [], _∷_}
 use mathlib.Core.Bool.{true, false}
@@ -8,10 +8,10 @@ use lib.IntN.{pos, negsuc}
 use Rattle.numbers.specs.Field.{when}
 use Rattle.samples.specs.declared.Sample.{Sample}
 use Rattle.verdicts.specs.Findings.{Track, track, claim, Span, F1, F2, F3, F4, F5, F6, F7, F8}
-use Rattle.verdicts.specs.Sweep.{sweepFrom}
+use Rattle.verdicts.specs.Sweep.{bytes, sweepFrom}
 use Rattle.verdicts.specs.Fragments.{Traf, Moof}
 use Rattle.verdicts.specs.Audit.{questions, auditOf}
-use Rattle.verdicts.specs.declared.Finding.{Finding}
+use Rattle.verdicts.specs.Meaning.{count, sizesOf}
 use Rattle.verdicts.specs.declared.Verdict.the-variants.{Clean, Found}
 
 abbrev sample : ℕ → ℕ → ℕ → ℕ → ℕ → Sample
@@ -89,6 +89,18 @@ case-interleaved = refl
 pub not-only-totals : auditOf (tracks (at 1 48 10 ∷ at 2 67 10 ∷ []) (at 1 58 10 ∷ at 2 100 20 ∷ [])) two [] ≡ Found (F5 (claim 7 (at 2 67 10)))
 unfolding auditOf questions sweepFrom when
 not-only-totals = refl
+
+case-totals : sizesOf (tracks (at 1 48 10 ∷ at 2 67 10 ∷ []) (at 1 58 10 ∷ at 2 100 20 ∷ [])) ≡ bytes two
+case-totals = refl
+
+-- byte 67 is in two of its samples, byte 77 in none
+case-twice : count 67 (tracks (at 1 48 10 ∷ at 2 67 10 ∷ []) (at 1 58 10 ∷ at 2 100 20 ∷ [])) ≡ 2
+unfolding when
+case-twice = refl
+
+case-never : count 77 (tracks (at 1 48 10 ∷ at 2 67 10 ∷ []) (at 1 58 10 ∷ at 2 100 20 ∷ [])) ≡ 0
+unfolding when
+case-never = refl
 
 -- a hole is met before what lies behind it (A41)
 case-hole-first : auditOf (tracks (at 1 48 10 ∷ at 2 69 10 ∷ []) (at 1 58 10 ∷ at 2 100 20 ∷ [])) two [] ≡ Found (F6 68)
