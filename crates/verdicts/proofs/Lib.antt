@@ -1,0 +1,11 @@
+pub mod Vectors
+pub mod Laws
+pub mod Sound
+pub mod Complete
+pub mod Steps
+pub mod Swept
+pub mod Passing
+pub mod Following
+pub mod Sizes
+pub mod Clean
+pub mod Order
