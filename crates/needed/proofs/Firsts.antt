@@ -50,12 +50,3 @@ row-most test (suc n) = by (eqb (rowOf test n) 0) (test n) (row-most test n)
     by true true h = omega arith
     by true false h = omega arith
     by false t h = omega (arith, h)
-
--- ONE OF TWO
-
-module _ (a b r : ℕ) (e : r ≡ a) where
-  pub or-first : (r ≡ 0 → ⊥) → r ≡ orElse a b
-  or-first o = is-ne _ _ _ a 0 (λ z. o (e ∙ z)) e
-
-  pub or-second : (x : ℕ) → r ≡ 0 → x ≡ b → x ≡ orElse a b
-  or-second x h q = is-eq _ _ _ a 0 (sym e ∙ h) q

@@ -10,7 +10,7 @@ use Rattle.layout.specs.Read.{one, decode}
 use Rattle.rounds.proofs.Example.{box}
 use Rattle.places.specs.Kinds.{ftyp, moov, moof, mvhd, trak, mvex, trex, tkhd, mdia, mdhd, hdlr, minf, dinf, stbl, stsd, stts, stsc, stsz, stco, co64, mfhd, traf, tfhd, tfdt, trun}
 use Rattle.keys.specs.Key.{keys, pickKey}
-use Rattle.kin.specs.Kin.{Boxes, boxes}
+use Rattle.kin.specs.Kin.{boxes}
 use Rattle.needed.specs.First.{first}
 use Rattle.needed.specs.Needed.{child, each, needed, inStbl, inMinf, inMdia, inTrak, trexOf, neededTrex, inTraf, inMoof, inFile, missingOf}
 use Rattle.needed.specs.declared.Missing.{Missing}

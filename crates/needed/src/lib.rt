@@ -3,6 +3,7 @@ ghost use mathlib.Core.Path.{_≡_};
 ghost use Prim.Native.Nat.{_≤_, min};
 ghost use Rattle.places.specs.Visit.{boxLimit};
 ghost use Rattle.kin.specs.Kin.{boxes};
+ghost use Rattle.needed.specs.First.{orElse};
 ghost use Rattle.needed.specs.Needed.{inFile, missingOf};
 use places::kinds;
 
@@ -20,6 +21,12 @@ fn rows(n: usize) -> usize
     ensures { λ r. ⌜ r ≡ min n boxLimit ⌝ }
 {
     if n < 4096 { n } else { 4096 }
+}
+
+fn or_else(a: u32, b: u32) -> u32
+    ensures { λ r. ⌜ r ≡ orElse a b ⌝ }
+{
+    if a == 0 { b } else { a }
 }
 
 fn in_file(
@@ -44,11 +51,9 @@ fn in_file(
     if inside::child(kinds::MVHD, moov, n, starts, sizes, kinds, parents, placed) == 0 {
         return kinds::MVHD;
     }
-    let kind = traks::in_traks(moov, n, starts, sizes, kinds, parents, placed);
-    if kind != 0 {
-        return kind;
-    }
-    moofs::in_moofs(s, n, starts, sizes, kinds, parents, placed)
+    let track = traks::in_traks(moov, n, starts, sizes, kinds, parents, placed);
+    let fragment = moofs::in_moofs(s, n, starts, sizes, kinds, parents, placed);
+    or_else(track, fragment)
 }
 
 // The first needed box that is missing among the n that are recorded.
