@@ -1,7 +1,8 @@
--- The first needed box that a file lacks (document 01, Needed; ISO/IEC 14496-12, 6.2.3), by the boxes that are recorded in
--- the tables: those of the file, then those of each track, then those of each fragment (A30). Each definition answers
--- with the four letters of the first box that is missing, or 0. A box counts where it stands in its place (A2); of two
--- in one parent the first counts, and what would stand in a box that is missing is not asked for. Assumes nothing.
+-- The first needed box that a file lacks (document 01, Needed; ISO/IEC 14496-12, 6.2.3), by the boxes that are recorded
+-- in the tables: those of the file, then those of each track, then those of each fragment (A30). Each definition gives
+-- the four letters of the first box that is missing, as the number that they are (A12), or 0. A box counts where it
+-- stands in its place (A2); of two in one parent the first counts, and what would stand in a missing box is not asked
+-- for. Assumes nothing.
 use Prim.Native.Nat.{ℕ, _+_, _-_, min}
 use mathlib.Core.List.{List}
 use mathlib.Core.Bool.{Bool, _&&_}
