@@ -1,0 +1,4 @@
+mod Firsts
+mod Lacks
+mod Unique
+mod Vectors

@@ -1,0 +1,42 @@
+use mathlib.Core.Path.{_≡_}
+use Prim.Native.Nat.{_-_, _≤_}
+use native.Mathlib.Omega.{arith}
+use borrow.Author.Needs.{needs}
+use Rattle.kin.specs.Kin.{boxes}
+use Rattle.needed.specs.Needed.{child}
+use Rattle.needed.proofs.Lacks.{child-none, child-next, child-at, child-end}
+use Rattle.needed.proofs.inside.child.Statement.{statement}
+use Rattle.needed.proofs.inside.child.Tie as tie
+
+abbrev Inv-loop : tie.InvT-loop
+Inv-loop kind p n starts sizes kinds parents placed j₀ j = (j ≤ n) × (child (boxes starts sizes kinds parents placed) j kind p ≡ 0)
+
+abbrev μ-loop : tie.MeasureT-loop
+μ-loop kind p n starts sizes kinds parents placed j₀ j = n - j
+
+loop-holds : tie.Need-loop-holds Inv-loop μ-loop
+loop-holds c = (omega arith, child-none _ _ _)
+
+in-parent-requires : tie.Need-in-parent-requires Inv-loop μ-loop
+in-parent-requires c κs = search needs
+
+add-result : tie.Need-add-result Inv-loop μ-loop
+add-result c = search needs
+
+returns : tie.Need-returns Inv-loop μ-loop
+returns c = child-at _ _ _ _ _ _ (c .before .before .loop-test .taken) (c .before .before .before .loop .inv .1) (c .before .in-parent .ensures) (c .if1 .taken)
+
+add-j : tie.Need-add-j Inv-loop μ-loop
+add-j c = search needs
+
+loop-less : tie.Need-loop-less Inv-loop μ-loop
+loop-less c = search needs
+
+loop-again : tie.Need-loop-again Inv-loop μ-loop
+loop-again c = (omega arith, child-next _ _ _ _ _ (c .before .before .before .loop .inv .1) (c .before .in-parent .ensures) (c .if1 .left))
+
+returns-2 : tie.Need-returns-2 Inv-loop μ-loop
+returns-2 c = child-end _ _ _ _ _ (c .before .loop .inv .0) (c .loop-test .left) (c .before .loop .inv .1)
+
+pub child-spec : {M : Type 1} → statement M
+child-spec = tie.close (tie.spec Inv-loop μ-loop loop-holds in-parent-requires add-result returns add-j loop-less loop-again returns-2)

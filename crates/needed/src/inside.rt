@@ -1,0 +1,45 @@
+// The boxes of a type in a parent, which is named by its row and 1, or by 0 where it is the file.
+ghost use mathlib.Core.Path.{_≡_};
+ghost use Prim.Native.Nat.{_<_, _≤_};
+ghost use Rattle.kin.specs.Kin.{boxes};
+ghost use Rattle.needed.specs.Needed.{inParent, child};
+
+pub(crate) fn in_parent(
+    kind: u32,
+    p: usize,
+    j: usize,
+    starts: &[usize; 4096],
+    sizes: &[usize; 4096],
+    kinds: &[usize; 4096],
+    parents: &[usize; 4096],
+    placed: &[usize; 4096],
+) -> bool
+    requires { ⌜ j < 4096 ⌝ }
+    ensures { λ r. ⌜ r ≡ inParent (boxes (now (starts .entry)) (now (sizes .entry)) (now (kinds .entry)) (now (parents .entry)) (now (placed .entry))) kind p j ⌝ }
+{
+    (placed[j] == 1) & (kinds[j] == kind as usize) & (parents[j] == p)
+}
+
+// The first of n boxes that is of this type and in the parent p: its row and 1, or 0.
+pub(crate) fn child(
+    kind: u32,
+    p: usize,
+    n: usize,
+    starts: &[usize; 4096],
+    sizes: &[usize; 4096],
+    kinds: &[usize; 4096],
+    parents: &[usize; 4096],
+    placed: &[usize; 4096],
+) -> usize
+    requires { ⌜ n ≤ 4096 ⌝ }
+    ensures { λ r. ⌜ r ≡ child (boxes (now (starts .entry)) (now (sizes .entry)) (now (kinds .entry)) (now (parents .entry)) (now (placed .entry))) n kind p ⌝ }
+{
+    let mut j = 0;
+    while j < n {
+        if in_parent(kind, p, j, starts, sizes, kinds, parents, placed) {
+            return j + 1;
+        }
+        j = j + 1;
+    }
+    0
+}
