@@ -1,18 +1,17 @@
-use borrow.Author.Needs.{needs}
 use Rattle.needed.specs.Needed.{child, inMoof}
 use Rattle.needed.proofs.Lacks.{lacking, present}
 use Rattle.needed.proofs.moofs.in_moof.Statement.{statement}
 use Rattle.needed.proofs.moofs.in_moof.Tie as tie
 
 child-requires : tie.Need-child-requires
-child-requires c κs = search needs
+child-requires c κs = c .before .pre
 
 returns : tie.Need-returns
 unfolding inMoof
 returns c = lacking _ _ _ _ _ _ (c .before .child .ensures) (c .if1 .taken)
 
 in-trafs-requires : tie.Need-in-trafs-requires
-in-trafs-requires c κs = search needs
+in-trafs-requires c κs = c .before .before .before .pre
 
 returns-2 : tie.Need-returns-2
 unfolding inMoof

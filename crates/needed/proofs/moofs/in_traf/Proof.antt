@@ -9,7 +9,7 @@ use Rattle.needed.proofs.moofs.in_traf.Statement.{statement}
 use Rattle.needed.proofs.moofs.in_traf.Tie as tie
 
 child-requires : tie.Need-child-requires
-child-requires c κs = search needs
+child-requires c κs = c .before .pre
 
 returns : tie.Need-returns
 unfolding inTraf
@@ -22,21 +22,21 @@ track-of-requires : tie.Need-track-of-requires
 track-of-requires c κs = omega (arith, child-most (boxes (c .before .before .before .args .starts .now) (c .before .before .before .args .sizes .now) (c .before .before .before .args .kinds .now) (c .before .before .before .args .parents .now) (c .before .before .before .args .placed .now)) tfhd (c .before .before .before .args .p) (c .before .before .before .args .n), c .before .child .ensures)
 
 trex-of-requires : tie.Need-trex-of-requires
-trex-of-requires c κs = search needs
+trex-of-requires c κs = c .before .before .before .before .pre
 
 returns-2 : tie.Need-returns-2
 unfolding inTraf
 returns-2 c = present _ _ _ _ _ _ (c .before .before .before .before .child .ensures) (c .before .before .before .if1 .left) (trex-lacking _ _ _ _ _ _ _ _ (c .before .before .before .before .child .ensures) (c .before .before .track-of .ensures) (c .before .trex-of .ensures) (c .if2 .taken))
 
 child-requires-2 : tie.Need-child-requires-2
-child-requires-2 c κs = search needs
+child-requires-2 c κs = c .before .before .before .before .before .before .pre
 
 returns-3 : tie.Need-returns-3
 unfolding inTraf
 returns-3 c = present _ _ _ _ _ _ (c .before .before .before .before .before .before .child .ensures) (c .before .before .before .before .before .if1 .left) (trex-present _ _ _ _ _ _ _ _ (c .before .before .before .before .before .before .child .ensures) (c .before .before .before .before .track-of .ensures) (c .before .before .before .trex-of .ensures) (c .before .before .if2 .left) (lacking _ _ _ _ _ _ (c .before .child2 .ensures) (c .if3 .taken)))
 
 child-requires-3 : tie.Need-child-requires-3
-child-requires-3 c κs = search needs
+child-requires-3 c κs = c .before .before .before .before .before .before .before .before .pre
 
 returns-4 : tie.Need-returns-4
 unfolding inTraf

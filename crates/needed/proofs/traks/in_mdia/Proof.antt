@@ -1,5 +1,4 @@
 use mathlib.Core.Path.{ap, _∙_}
-use borrow.Author.Needs.{needs}
 use Rattle.kin.specs.Kin.{boxes}
 use Rattle.needed.specs.Needed.{child, inMinf, inMdia}
 use Rattle.needed.proofs.Lacks.{lacking, present}
@@ -7,28 +6,28 @@ use Rattle.needed.proofs.traks.in_mdia.Statement.{statement}
 use Rattle.needed.proofs.traks.in_mdia.Tie as tie
 
 child-requires : tie.Need-child-requires
-child-requires c κs = search needs
+child-requires c κs = c .pre
 
 returns : tie.Need-returns
 unfolding inMdia
 returns c = lacking _ _ _ _ _ _ (c .before .child .ensures) (c .if1 .taken)
 
 child-requires-2 : tie.Need-child-requires-2
-child-requires-2 c κs = search needs
+child-requires-2 c κs = c .before .before .pre
 
 returns-2 : tie.Need-returns-2
 unfolding inMdia
 returns-2 c = present _ _ _ _ _ _ (c .before .before .before .child .ensures) (c .before .before .if1 .left) (lacking _ _ _ _ _ _ (c .before .child2 .ensures) (c .if2 .taken))
 
 child-requires-3 : tie.Need-child-requires-3
-child-requires-3 c κs = search needs
+child-requires-3 c κs = c .before .before .before .before .pre
 
 returns-3 : tie.Need-returns-3
 unfolding inMdia
 returns-3 c = present _ _ _ _ _ _ (c .before .before .before .before .before .child .ensures) (c .before .before .before .before .if1 .left) (present _ _ _ _ _ _ (c .before .before .before .child2 .ensures) (c .before .before .if2 .left) (lacking _ _ _ _ _ _ (c .before .child3 .ensures) (c .if3 .taken)))
 
 in-minf-requires : tie.Need-in-minf-requires
-in-minf-requires c κs = search needs
+in-minf-requires c κs = c .before .before .before .before .before .before .pre
 
 returns-4 : tie.Need-returns-4
 unfolding inMdia

@@ -1,5 +1,4 @@
 use mathlib.Core.Path.{ap, _∙_}
-use borrow.Author.Needs.{needs}
 use Rattle.kin.specs.Kin.{boxes}
 use Rattle.needed.specs.Needed.{child, inMdia, inTrak}
 use Rattle.needed.proofs.Lacks.{lacking, present}
@@ -7,21 +6,21 @@ use Rattle.needed.proofs.traks.in_trak.Statement.{statement}
 use Rattle.needed.proofs.traks.in_trak.Tie as tie
 
 child-requires : tie.Need-child-requires
-child-requires c κs = search needs
+child-requires c κs = c .pre
 
 returns : tie.Need-returns
 unfolding inTrak
 returns c = lacking _ _ _ _ _ _ (c .before .child .ensures) (c .if1 .taken)
 
 child-requires-2 : tie.Need-child-requires-2
-child-requires-2 c κs = search needs
+child-requires-2 c κs = c .before .before .pre
 
 returns-2 : tie.Need-returns-2
 unfolding inTrak
 returns-2 c = present _ _ _ _ _ _ (c .before .before .before .child .ensures) (c .before .before .if1 .left) (lacking _ _ _ _ _ _ (c .before .child2 .ensures) (c .if2 .taken))
 
 in-mdia-requires : tie.Need-in-mdia-requires
-in-mdia-requires c κs = search needs
+in-mdia-requires c κs = c .before .before .before .before .pre
 
 returns-3 : tie.Need-returns-3
 unfolding inTrak
