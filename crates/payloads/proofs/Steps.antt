@@ -1,8 +1,8 @@
 -- The payloads from a row on, row after row. Assumes nothing.
 use mathlib.Core.Path.{_≡_, refl, sym, ap, ap₂, _∙_}
-use mathlib.Core.List.{List, [], _∷_}
+use mathlib.Core.List.{List, _∷_}
 use mathlib.Core.Bool.{Bool, true, false, _&&_, _||_}
-use Prim.Native.Nat.{ℕ, zero, suc, _+_, _-_, _<_, _≤_, min}
+use Prim.Native.Nat.{ℕ, suc, _+_, _-_, _<_, _≤_}
 use native.Mathlib.Omega.{arith}
 use lib.Dec.{leb, ltb}
 use Rattle.numbers.specs.Field.{when, orZero}
@@ -11,8 +11,7 @@ use Rattle.places.specs.Kinds.{mdat}
 use Rattle.kin.specs.Kin.{Boxes, stands}
 use Rattle.verdicts.specs.Findings.{Span}
 use Rattle.verdicts.specs.Sweep.{inSome}
-use Rattle.payloads.specs.Payloads.{headerOf, toOf, fromOf, span, payloadsIn, payloadsFrom, nextIn, nextOf}
-use Rattle.payloads.specs.declared.Payload.{Payload}
+use Rattle.payloads.specs.Payloads.{headerOf, toOf, fromOf, span, payloadsIn, nextIn}
 use Rattle.payloads.specs.declared.Payload.the-variants.{At, End}
 
 -- THE HEADER

@@ -13,11 +13,7 @@ use places::kinds;
 
 // The bytes from `from` up to and not with `to`, and the row after their mdat's.
 pub enum Payload {
-    At {
-        from: usize,
-        to: usize,
-        row: usize,
-    },
+    At { from: usize, to: usize, row: usize },
     End,
 }
 

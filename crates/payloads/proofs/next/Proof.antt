@@ -1,6 +1,5 @@
 use mathlib.Core.Path.{_≡_, refl, ap, _∙_}
 use Prim.Native.Nat.{_-_}
-use native.Mathlib.Omega.{arith}
 use Rattle.kin.specs.Kin.{boxes}
 use Rattle.payloads.specs.Payloads.{nextIn}
 use Rattle.payloads.proofs.Steps.{over, here, further}
