@@ -143,6 +143,33 @@ module _ (d : Node) where
       by f t t′ (inside u s) = in-kids (getD kids i d) s u (f i u) (t i u)
       by f t t′ (behind j g u s) = in-rest j (getD rest j d) g s (t′ j u)
 
+  -- the boxes in a row's boxes name none of those above
+  names-below : {a : Above} {n at : ℕ} {ns : List Node} → Forest a n at ns → (m : ℕ) → m < a .number → m < n → (i : ℕ) → i < length ns → m < getD ns i d .parent
+  names-below g m l k i h = ⊎-elim (λ f. omega (arith, f .named)) (λ c. omega (arith, c .named)) (parents g i h)
+
+  -- boxes of one row lie apart: each ends before the next begins
+  pub apart : {a : Above} {n at : ℕ} {ns : List Node} → Forest a n at ns → a .number ≤ n → (i j : ℕ) → i < j → j < length ns →
+      getD ns i d .parent ≡ a .number → getD ns j d .parent ≡ a .number → getD ns i d .start + getD ns i d .size ≤ getD ns j d .start
+  apart none c i j g h f t = absurd (omega arith)
+  apart (box p b z e q l m k r) c i zero g h f t = absurd (omega arith)
+  apart {a} {n} {at} (box {x = x} {kids = kids} {rest = rest} p b z e q l m k r) c zero (suc j) g h f t =
+      by (λ o u. names-below k (a .number) (omega arith) (omega arith) o u) (λ o u. lies r o u) (split kids rest j (omega arith))
+    where
+      by : ((o : ℕ) → o < length kids → a .number < getD kids o d .parent) → ((o : ℕ) → o < length rest → Lies a (x .start + x .size) (getD rest o d)) →
+          Split kids rest j → x .start + x .size ≤ getD (kids ++ rest) j d .start
+      by below there (inside u s) = absurd (omega (arith, below j u, ap (λ y. y .parent) s, t))
+      by below there (behind o y u s) = omega (arith, there o u .from, ap (λ y. y .start) s)
+  apart {a} {n} {at} (box {x = x} {kids = kids} {rest = rest} p b z e q l m k r) c (suc i) (suc j) g h f t =
+      by (λ o u. names-below k (a .number) (omega arith) (omega arith) o u) (λ o u v w f′ t′. apart r (omega arith) o u v w f′ t′) (split kids rest i (omega arith)) (split kids rest j (omega arith))
+    where
+      by : ((o : ℕ) → o < length kids → a .number < getD kids o d .parent) →
+          ((o u : ℕ) → o < u → u < length rest → getD rest o d .parent ≡ a .number → getD rest u d .parent ≡ a .number → getD rest o d .start + getD rest o d .size ≤ getD rest u d .start) →
+          Split kids rest i → Split kids rest j → getD (kids ++ rest) i d .start + getD (kids ++ rest) i d .size ≤ getD (kids ++ rest) j d .start
+      by below ih (inside u s) w = absurd (omega (arith, below i u, ap (λ y. y .parent) s, f))
+      by below ih (behind o y u s) (inside v w) = absurd (omega (arith, below j v, ap (λ y. y .parent) w, t))
+      by below ih (behind o y u s) (behind o′ y′ v w) =
+          omega (arith, ih o o′ (omega arith) v (sym (ap (λ y. y .parent) s) ∙ f) (sym (ap (λ y. y .parent) w) ∙ t), ap (λ y. y .start) s, ap (λ y. y .size) s, ap (λ y. y .start) w)
+
 -- OF A FILE
 module _ (s : List ℕ) where
   abbrev nodes : List Node
@@ -160,3 +187,8 @@ module _ (s : List ℕ) where
 
     pub tree-parents : (i : ℕ) → i < length nodes → First d (atTop s) (getD nodes i d) ⊎ Child d 0 nodes i (getD nodes i d)
     tree-parents = parents d (tree-grows s)
+
+    -- the boxes at the top lie apart
+    pub tree-apart : (i j : ℕ) → i < j → j < length nodes → getD nodes i d .parent ≡ 0 → getD nodes j d .parent ≡ 0 →
+        getD nodes i d .start + getD nodes i d .size ≤ getD nodes j d .start
+    tree-apart = apart d (tree-grows s) (omega arith)
