@@ -1,11 +1,10 @@
 // How far a fragment begins after the time at which it is due, or before it.
 ghost use mathlib.Core.Path.{_≡_};
 ghost use Rattle.gaps.specs.Gaps.{gapOf, behind};
+use samples::TIME_BOUND;
 
+// The largest number.
 const LAST: u64 = 0xFFFF_FFFF_FFFF_FFFF;
-
-// The first decode time that is none (9).
-const TIME_BOUND: u64 = 0x8000_0000_0000_0000;
 
 // Over: a time is 2^63 or more, or the gap is no signed number of 64 bits (refusal 9).
 pub enum Gap {

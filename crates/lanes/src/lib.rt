@@ -11,16 +11,13 @@ ghost use Rattle.tables.specs.Rows.{rowsOf};
 ghost use Rattle.samples.specs.Lists.{view};
 ghost use Rattle.lanes.specs.Lane.{runsLeft, shiftsLeft, syncsLeft, left, begun, fresh, shows};
 ghost use Rattle.lanes.specs.Steps.{rowsAt, Ready, afterOf, SamePlaces, PlaceReady, shiftOf, MarkReady, syncOf, samplesFrom};
+use samples::LAST;
 use samples::Sample;
+use samples::TIME_BOUND;
 use tables::Chunks;
 use tables::Optional;
 use tables::Rows;
 use tables::Track;
-
-// The last position that a sample may end at, and the first time that none has (9).
-const LAST: u64 = 0xFFFF_FFFF_FFFF_FFFF;
-
-const TIME_BOUND: u64 = 0x8000_0000_0000_0000;
 
 // A cursor over runs: the next row, how many of the row before are left, and their value.
 pub struct Runs {

@@ -12,18 +12,15 @@ ghost use Rattle.tables.specs.Samples.{syncAt, samplesOf};
 ghost use Rattle.lookup.specs.Lookup.{syncOf, shiftAt, sampleAt};
 use numbers::Refusal;
 use samples::Found;
+use samples::LAST;
 use samples::Located;
+use samples::TIME_BOUND;
 use seek::Spot;
 use seek::Value;
 use tables::Optional;
 use tables::Sizes;
 use tables::Table;
 use tables::Track;
-
-// The last position that a sample may end at, and the first time that none has (9).
-const LAST: u64 = 0xFFFF_FFFF_FFFF_FFFF;
-
-const TIME_BOUND: u64 = 0x8000_0000_0000_0000;
 
 // Whether a sample is sync, or the refusal.
 pub enum Synced {

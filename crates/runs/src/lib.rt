@@ -12,17 +12,14 @@ ghost use Rattle.runs.specs.Values.{ownOf, durationAt, sizeAt, flagsBy, 
 ghost use Rattle.runs.specs.Samples.{bytesIn, endBy, endOf, durationsIn};
 ghost use Rattle.runs.specs.Lane.{begun, left, shows, upTo, upToBy};
 use numbers::Refusal;
+use samples::LAST;
 use samples::Sample;
+use samples::TIME_BOUND;
 use tfdt::Tfdt;
 use tfhd::Tfhd;
 use trex::Trex;
 use trun::Listed;
 use trun::Trun;
-
-// The last position that a sample may end at, and the first time that none has (9).
-const LAST: u64 = 0xFFFF_FFFF_FFFF_FFFF;
-
-const TIME_BOUND: u64 = 0x8000_0000_0000_0000;
 
 // The last number of a sample.
 const LAST_NUMBER: u32 = 0xFFFF_FFFF;

@@ -40,6 +40,11 @@ pub enum Listed {
 // How many numbers a record has: number, offset, size, time, duration, composition offset, sync.
 pub const RECORD: usize = 7;
 
+// The last position that a sample may end at, and the first time that none has (9).
+pub const LAST: u64 = 0xFFFF_FFFF_FFFF_FFFF;
+
+pub const TIME_BOUND: u64 = 0x8000_0000_0000_0000;
+
 const ALL_ONES: u64 = 0xFFFF_FFFF_FFFF_FFFF;
 
 // The 64 bits of a signed number, in two's complement.

@@ -5,13 +5,14 @@ use mathlib.Core.List.{List}
 use native.Mathlib.Omega.{arith}
 use native.Mathlib.Nat.{zero-add}
 use lib.ListN.{length, take, drop, length-take, length-drop}
-use lib.Seq.{getD-take, getD-drop}
+use lib.Seq.{getD-take}
 use Rattle.numbers.specs.Number.{be}
 use Rattle.numbers.specs.Field.{field, orZero}
 use Rattle.numbers.specs.declared.Refusal.{Refusal}
 use Rattle.numbers.specs.declared.U32.{U32}
 use Rattle.numbers.specs.declared.U32.the-variants as u32
 use Rattle.numbers.proofs.Chain.{there, lacks, whole, ends, by32}
+use Rattle.words.proofs.Words.{be-drop}
 use Rattle.tables.specs.Tables.{listFrom, sum, sizeAt}
 use Rattle.tables.specs.declared.Sizes.{Sizes}
 use Rattle.tables.proofs.Cases.{size-listed}
@@ -44,12 +45,6 @@ sum-part g h (suc n) (suc m) i k l e z =
     omega (arith, b, c)
 
 -- NUMBERS IN A PART
-
-be-drop : (w s : ℕ) (b : List ℕ) (at : ℕ) → be w (drop s b) at ≡ be w b (s + at)
-unfolding be
-be-drop zero s b at = refl
-be-drop (suc w) s b at =
-    ap₂ (λ (x y : ℕ). x * 256 ^ w + y) (getD-drop s b at 0) (be-drop w s b (suc at) ∙ ap (be w b) (let e : s + suc at ≡ suc (s + at) = omega arith in e))
 
 be-take : (w n : ℕ) (b : List ℕ) (at : ℕ) → at + w ≤ n → be w (take n b) at ≡ be w b at
 unfolding be

@@ -20,7 +20,7 @@ use Rattle.numbers.proofs.Chain.{Reader, there, lacks, whole, ends, is-lt, not-
 use Rattle.signed.specs.Signed.{signed}
 
 -- a number is the same in the part of the file from `at` on
-be-drop : (w s : ℕ) (b : List ℕ) (at : ℕ) → be w (drop s b) at ≡ be w b (s + at)
+pub be-drop : (w s : ℕ) (b : List ℕ) (at : ℕ) → be w (drop s b) at ≡ be w b (s + at)
 unfolding be
 be-drop zero s b at = refl
 be-drop (suc w) s b at =
