@@ -6,6 +6,8 @@ use mathlib.Core.Bool.{Bool}
 use lib.IntN.{ℤ, pos}
 use Rattle.samples.specs.declared.Sample.{Sample}
 use Rattle.verdicts.specs.declared.Finding.{Finding}
+use Rattle.verdicts.specs.declared.Asked.{Asked}
+use Rattle.verdicts.specs.declared.Asked.the-variants as told
 
 -- a track: its number, whether its tables' counts agree, and its samples, or those of its that are left
 pub data Track : Type 0 where
@@ -68,3 +70,8 @@ abbrev pub firstFound : List Answer → Answer
 firstFound [] = passes
 firstFound (passes ∷ l) = firstFound l
 firstFound (found f ∷ l) = found f
+
+-- an answer as the code tells it
+abbrev pub asked : Answer → Asked
+asked passes = told.Passes
+asked (found f) = told.Found f

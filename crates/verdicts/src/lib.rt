@@ -11,6 +11,12 @@ pub struct Finding {
     pub gap: i64,
 }
 
+// What a question of the audit tells: it passes, or finds.
+pub enum Asked {
+    Passes,
+    Found(Finding),
+}
+
 // Clean tells how much it is about: so many tracks, samples and bytes of media data.
 pub enum Verdict {
     Clean {
