@@ -1,16 +1,15 @@
 -- What the payloads are to each other and to the next. Assumes nothing.
-use mathlib.Core.Path.{_≡_, refl, ap}
+use mathlib.Core.Path.{_≡_, refl, sym, ap, subst, _∙_}
 use mathlib.Core.List.{List, [], _∷_}
 use mathlib.Core.Bool.{Bool, true, false}
 use Prim.Native.Nat.{ℕ, zero, suc, _+_, _-_, _<_, _≤_, min}
 use native.Mathlib.Omega.{arith}
 use Rattle.numbers.specs.Field.{when}
 use Rattle.places.specs.Visit.{boxLimit}
-use Rattle.places.specs.Kinds.{mdat}
-use Rattle.kin.specs.Kin.{Boxes, at, stands}
+use Rattle.kin.specs.Kin.{Boxes, at}
 use Rattle.verdicts.specs.Findings.{Span}
 use Rattle.verdicts.specs.Meaning.{First, InOrder}
-use Rattle.payloads.specs.Payloads.{toOf, fromOf, span, payloadsIn, payloadsFrom, nextIn, nextOf}
+use Rattle.payloads.specs.Payloads.{isMedia, toOf, fromOf, span, payloadsIn, payloadsFrom, nextIn, nextOf}
 use Rattle.payloads.specs.declared.Payload.{Payload}
 use Rattle.payloads.specs.declared.Payload.the-variants.{At, End}
 
@@ -23,7 +22,7 @@ module _ (f : List ℕ) (t : Boxes) (n : ℕ) where
   follow-in : (k i : ℕ) → min n boxLimit - i ≡ k → follow (nextIn f t k i) ≡ payloadsIn f t k i
   unfolding nextIn payloadsIn when
   follow-in zero i e = refl
-  follow-in (suc k) i e = by (stands t mdat i) (let z : min n boxLimit - (i + 1) ≡ k = omega arith in z) (λ e. follow-in k (i + 1) e)
+  follow-in (suc k) i e = by (isMedia t i) (let z : min n boxLimit - (i + 1) ≡ k = omega arith in z) (λ e. follow-in k (i + 1) e)
     where
       by : (r : Bool) → min n boxLimit - (i + 1) ≡ k → (min n boxLimit - (i + 1) ≡ k → follow (nextIn f t k (i + 1)) ≡ payloadsIn f t k (i + 1)) →
           follow (when r (At (fromOf f t i) (toOf f t i) (i + 1)) (nextIn f t k (i + 1)))
@@ -35,12 +34,38 @@ module _ (f : List ℕ) (t : Boxes) (n : ℕ) where
   pub next-is-first : (i : ℕ) → follow (nextOf f t n i) ≡ payloadsFrom f t n i
   next-is-first i = follow-in (min n boxLimit - i) i refl
 
+  -- none of them ends before it begins
+  abbrev Forward : Payload → Type 0
+  Forward (At from to row) = from ≤ to
+  Forward End = Unit {0}
+
+  forward-in : (k i : ℕ) → Forward (nextIn f t k i)
+  unfolding nextIn when
+  forward-in zero i = tt
+  forward-in (suc k) i = by (isMedia t i) (forward-in k (i + 1))
+    where
+      by : (r : Bool) → Forward (nextIn f t k (i + 1)) → Forward (when r (At (fromOf f t i) (toOf f t i) (i + 1)) (nextIn f t k (i + 1)))
+      by true ih = omega arith
+      by false ih = ih
+
+  -- what is told, step by step
+  module _ (i : ℕ) (r : Payload) (e : r ≡ nextOf f t n i) where
+    pub told-end : r ≡ End → [] ≡ payloadsFrom f t n i
+    told-end q = ap follow (sym q ∙ e) ∙ next-is-first i
+
+    module _ (from to row : ℕ) (q : r ≡ At from to row) where
+      pub told-more : span from to ∷ payloadsFrom f t n row ≡ payloadsFrom f t n i
+      told-more = ap follow (sym q ∙ e) ∙ next-is-first i
+
+      pub told-forward : from ≤ to
+      told-forward = subst Forward (sym e ∙ q) (forward-in (min n boxLimit - i) i)
+
 -- ORDER
 
--- each mdat that stands in its place ends before the next such begins
+-- each mdat at the top ends before the next such begins
 abbrev pub Apart : Boxes → ℕ → Type 0
 Apart t n =
-    (i j : ℕ) → i < j → j < n → stands t mdat i ≡ true → stands t mdat j ≡ true → at (t .starts) i + at (t .sizes) i ≤ at (t .starts) j
+    (i j : ℕ) → i < j → j < n → isMedia t i ≡ true → isMedia t j ≡ true → at (t .starts) i + at (t .sizes) i ≤ at (t .starts) j
 
 module _ (f : List ℕ) (t : Boxes) where
   begins : (i : ℕ) → fromOf f t i ≤ toOf f t i
@@ -50,12 +75,12 @@ module _ (f : List ℕ) (t : Boxes) where
   follows i j h = omega (arith, h)
 
   -- what the first of the rows from j on is, for a row i before them
-  first-follows : (n i k j : ℕ) → Apart t n → stands t mdat i ≡ true → i < j → j + k ≤ n → First (λ d. toOf f t i ≤ d .from) (payloadsIn f t k j)
+  first-follows : (n i k j : ℕ) → Apart t n → isMedia t i ≡ true → i < j → j + k ≤ n → First (λ d. toOf f t i ≤ d .from) (payloadsIn f t k j)
   unfolding payloadsIn when
   first-follows n i zero j a s l h = tt
-  first-follows n i (suc k) j a s l h = by (stands t mdat j) refl (first-follows n i k (j + 1) a s (omega arith) (omega arith))
+  first-follows n i (suc k) j a s l h = by (isMedia t j) refl (first-follows n i k (j + 1) a s (omega arith) (omega arith))
     where
-      by : (r : Bool) → stands t mdat j ≡ r → First (λ d. toOf f t i ≤ d .from) (payloadsIn f t k (j + 1)) →
+      by : (r : Bool) → isMedia t j ≡ r → First (λ d. toOf f t i ≤ d .from) (payloadsIn f t k (j + 1)) →
           First (λ d. toOf f t i ≤ d .from) (when r (span (fromOf f t j) (toOf f t j) ∷ payloadsIn f t k (j + 1)) (payloadsIn f t k (j + 1)))
       by true e ih = follows i j (a i j l (omega arith) s e)
       by false e ih = ih
@@ -64,10 +89,10 @@ module _ (f : List ℕ) (t : Boxes) where
   unfolding payloadsIn when
   order-in n zero i a h = tt
   order-in n (suc k) i a h =
-      by (stands t mdat i) refl (order-in n k (i + 1) a (omega arith)) (λ s. first-follows n i k (i + 1) a s (omega arith) (omega arith))
+      by (isMedia t i) refl (order-in n k (i + 1) a (omega arith)) (λ s. first-follows n i k (i + 1) a s (omega arith) (omega arith))
     where
-      by : (r : Bool) → stands t mdat i ≡ r → InOrder (payloadsIn f t k (i + 1)) →
-          (stands t mdat i ≡ true → First (λ d. toOf f t i ≤ d .from) (payloadsIn f t k (i + 1))) →
+      by : (r : Bool) → isMedia t i ≡ r → InOrder (payloadsIn f t k (i + 1)) →
+          (isMedia t i ≡ true → First (λ d. toOf f t i ≤ d .from) (payloadsIn f t k (i + 1))) →
           InOrder (when r (span (fromOf f t i) (toOf f t i) ∷ payloadsIn f t k (i + 1)) (payloadsIn f t k (i + 1)))
       by true e ih next = (begins i, next e, ih)
       by false e ih next = ih

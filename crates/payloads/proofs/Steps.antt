@@ -7,11 +7,10 @@ use native.Mathlib.Omega.{arith}
 use lib.Dec.{leb, ltb}
 use Rattle.numbers.specs.Field.{when, orZero}
 use Rattle.numbers.proofs.Chain.{by-true, by-false, is-eq, is-ne}
-use Rattle.places.specs.Kinds.{mdat}
-use Rattle.kin.specs.Kin.{Boxes, stands}
+use Rattle.kin.specs.Kin.{Boxes}
 use Rattle.verdicts.specs.Findings.{Span}
 use Rattle.verdicts.specs.Sweep.{inSome}
-use Rattle.payloads.specs.Payloads.{headerOf, toOf, fromOf, span, payloadsIn, nextIn}
+use Rattle.payloads.specs.Payloads.{isMedia, headerOf, toOf, fromOf, span, payloadsIn, nextIn}
 use Rattle.payloads.specs.declared.Payload.the-variants.{At, End}
 
 -- THE HEADER
@@ -39,22 +38,22 @@ module _ (f : List ℕ) (t : Boxes) (end j : ℕ) where
   unfolding nextIn
   over h = sym (ap (λ k. nextIn f t k j) (none-left h))
 
-  next-step : j < end → nextIn f t (end - j) j ≡ when (stands t mdat j) (At (fromOf f t j) (toOf f t j) (j + 1)) (nextIn f t (end - (j + 1)) (j + 1))
+  next-step : j < end → nextIn f t (end - j) j ≡ when (isMedia t j) (At (fromOf f t j) (toOf f t j) (j + 1)) (nextIn f t (end - (j + 1)) (j + 1))
   unfolding nextIn
   next-step h = ap (λ k. nextIn f t k j) (one-more h)
 
-  module _ (r : Bool) (h : j < end) (e : r ≡ stands t mdat j) where
+  module _ (r : Bool) (h : j < end) (e : r ≡ isMedia t j) where
     pub here : (a b : ℕ) → r ≡ true → a ≡ fromOf f t j → b ≡ toOf f t j → At a b (j + 1) ≡ nextIn f t (end - j) j
-    here a b q x y = by-true _ _ _ (stands t mdat j) (sym e ∙ q) (ap₂ (λ (a b : ℕ). At a b (j + 1)) x y) ∙ sym (next-step h)
+    here a b q x y = by-true _ _ _ (isMedia t j) (sym e ∙ q) (ap₂ (λ (a b : ℕ). At a b (j + 1)) x y) ∙ sym (next-step h)
 
     pub further : r ≡ false → nextIn f t (end - (j + 1)) (j + 1) ≡ nextIn f t (end - j) j
-    further q = by-false _ _ _ (stands t mdat j) (sym e ∙ q) refl ∙ sym (next-step h)
+    further q = by-false _ _ _ (isMedia t j) (sym e ∙ q) refl ∙ sym (next-step h)
 
   -- A BYTE
 
   -- it lies in the payload of this row
   abbrev pub here-is : ℕ → Bool
-  here-is b = when (stands t mdat j) (leb (fromOf f t j) b && ltb b (toOf f t j)) false
+  here-is b = when (isMedia t j) (leb (fromOf f t j) b && ltb b (toOf f t j)) false
 
   pub in-none : (b : ℕ) → end ≤ j → false ≡ inSome b (payloadsIn f t (end - j) j)
   unfolding payloadsIn
@@ -62,7 +61,7 @@ module _ (f : List ℕ) (t : Boxes) (end j : ℕ) where
 
   in-step : (b : ℕ) → j < end → inSome b (payloadsIn f t (end - j) j) ≡ here-is b || inSome b (payloadsIn f t (end - (j + 1)) (j + 1))
   unfolding payloadsIn when
-  in-step b h = ap (λ k. inSome b (payloadsIn f t k j)) (one-more h) ∙ by (stands t mdat j) (payloadsIn f t (end - (j + 1)) (j + 1))
+  in-step b h = ap (λ k. inSome b (payloadsIn f t k j)) (one-more h) ∙ by (isMedia t j) (payloadsIn f t (end - (j + 1)) (j + 1))
     where
       by : (r : Bool) (m : List Span) →
           inSome b (when r (span (fromOf f t j) (toOf f t j) ∷ m) m) ≡ when r (leb (fromOf f t j) b && ltb b (toOf f t j)) false || inSome b m

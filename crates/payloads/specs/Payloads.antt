@@ -1,8 +1,9 @@
 -- The media data of a file: the payloads of its mdats (ISO/IEC 14496-12, 8.1.1; 01, Sweep; A39), by the boxes that are
--- recorded in the tables. An mdat stands in its place only at the top. Any tables mean something: a span ends with the
--- file at the latest, and begins at its end at the latest. Assumes nothing.
+-- recorded in the tables. Any tables mean something: a span ends with the file at the latest, and begins at its end at the
+-- latest. Assumes nothing.
 use Prim.Native.Nat.{ℕ, zero, suc, _+_, _-_, min}
 use mathlib.Core.List.{List, [], _∷_}
+use mathlib.Core.Bool.{Bool, _&&_}
 use lib.ListN.{length}
 use lib.Dec.{eqb}
 use Rattle.numbers.specs.Field.{when, orZero}
@@ -12,6 +13,10 @@ use Rattle.kin.specs.Kin.{Boxes, at, stands}
 use Rattle.verdicts.specs.Findings.{Span}
 use Rattle.payloads.specs.declared.Payload.{Payload}
 use Rattle.payloads.specs.declared.Payload.the-variants.{At, End}
+
+-- box j is an mdat at the top
+abbrev pub isMedia : Boxes → ℕ → Bool
+isMedia t j = _&&_ (stands t mdat j) (eqb (at (t .parents) j) 0)
 
 -- a size of 1 says that the size follows the type, in 8 bytes (4.2)
 abbrev pub headerOf : List ℕ → ℕ → ℕ
@@ -31,12 +36,12 @@ span from to = record { from = from; to = to }
 unfoldable pub payloadsIn : List ℕ → Boxes → ℕ → ℕ → List Span
 payloadsIn f t zero i = []
 payloadsIn f t (suc k) i =
-    when (stands t mdat i) (span (fromOf f t i) (toOf f t i) ∷ payloadsIn f t k (i + 1)) (payloadsIn f t k (i + 1))
+    when (isMedia t i) (span (fromOf f t i) (toOf f t i) ∷ payloadsIn f t k (i + 1)) (payloadsIn f t k (i + 1))
 
 -- the first of them, and the row after it
 unfoldable pub nextIn : List ℕ → Boxes → ℕ → ℕ → Payload
 nextIn f t zero i = End
-nextIn f t (suc k) i = when (stands t mdat i) (At (fromOf f t i) (toOf f t i) (i + 1)) (nextIn f t k (i + 1))
+nextIn f t (suc k) i = when (isMedia t i) (At (fromOf f t i) (toOf f t i) (i + 1)) (nextIn f t k (i + 1))
 
 -- of n recorded boxes from row i on; behind the last row of the tables there is no box
 abbrev pub payloadsFrom : List ℕ → Boxes → ℕ → ℕ → List Span

@@ -5,10 +5,9 @@ ghost use Prim.Native.Nat.{_<_, _+_, min};
 ghost use lib.Dec.{leb, ltb};
 ghost use Rattle.numbers.specs.Field.{when};
 ghost use Rattle.places.specs.Visit.{boxLimit};
-ghost use Rattle.places.specs.Kinds.{mdat};
-ghost use Rattle.kin.specs.Kin.{boxes, stands};
+ghost use Rattle.kin.specs.Kin.{boxes};
 ghost use Rattle.verdicts.specs.Sweep.{inSome};
-ghost use Rattle.payloads.specs.Payloads.{headerOf, toOf, fromOf, payloadsFrom, nextOf};
+ghost use Rattle.payloads.specs.Payloads.{isMedia, headerOf, toOf, fromOf, payloadsFrom, nextOf};
 use places::kinds;
 
 // The bytes from `from` up to and not with `to`, and the row after their mdat's.
@@ -70,7 +69,8 @@ fn from(
     reach(starts[j], header(s, starts[j]), end)
 }
 
-fn is_mdat(
+// An mdat in another box holds no media data.
+fn is_media(
     j: usize,
     starts: &[usize; 4096],
     sizes: &[usize; 4096],
@@ -79,9 +79,9 @@ fn is_mdat(
     placed: &[usize; 4096],
 ) -> bool
     requires { ⌜ j < 4096 ⌝ }
-    ensures { λ r. ⌜ r ≡ stands (boxes (now (starts .entry)) (now (sizes .entry)) (now (kinds .entry)) (now (parents .entry)) (now (placed .entry))) mdat j ⌝ }
+    ensures { λ r. ⌜ r ≡ isMedia (boxes (now (starts .entry)) (now (sizes .entry)) (now (kinds .entry)) (now (parents .entry)) (now (placed .entry))) j ⌝ }
 {
-    (placed[j] == 1) & (kinds[j] == kinds::MDAT as usize)
+    (placed[j] == 1) & (kinds[j] == kinds::MDAT as usize) & (parents[j] == 0)
 }
 
 fn rows(n: usize) -> usize
@@ -106,7 +106,7 @@ pub fn next(
     let end = rows(n);
     let mut j = i;
     while j < end {
-        if is_mdat(j, starts, sizes, kinds, parents, placed) {
+        if is_media(j, starts, sizes, kinds, parents, placed) {
             return Payload::At {
                 from: from(s, j, starts, sizes, kinds, parents, placed),
                 to: to(s, j, starts, sizes, kinds, parents, placed),
@@ -130,9 +130,9 @@ fn holds_at(
     placed: &[usize; 4096],
 ) -> bool
     requires { ⌜ j < 4096 ⌝ }
-    ensures { λ r. ⌜ r ≡ when (stands (boxes (now (starts .entry)) (now (sizes .entry)) (now (kinds .entry)) (now (parents .entry)) (now (placed .entry))) mdat j) (leb (fromOf (now (s .entry)) (boxes (now (starts .entry)) (now (sizes .entry)) (now (kinds .entry)) (now (parents .entry)) (now (placed .entry))) j) b && ltb b (toOf (now (s .entry)) (boxes (now (starts .entry)) (now (sizes .entry)) (now (kinds .entry)) (now (parents .entry)) (now (placed .entry))) j)) false ⌝ }
+    ensures { λ r. ⌜ r ≡ when (isMedia (boxes (now (starts .entry)) (now (sizes .entry)) (now (kinds .entry)) (now (parents .entry)) (now (placed .entry))) j) (leb (fromOf (now (s .entry)) (boxes (now (starts .entry)) (now (sizes .entry)) (now (kinds .entry)) (now (parents .entry)) (now (placed .entry))) j) b && ltb b (toOf (now (s .entry)) (boxes (now (starts .entry)) (now (sizes .entry)) (now (kinds .entry)) (now (parents .entry)) (now (placed .entry))) j)) false ⌝ }
 {
-    if is_mdat(j, starts, sizes, kinds, parents, placed) {
+    if is_media(j, starts, sizes, kinds, parents, placed) {
         let start = from(s, j, starts, sizes, kinds, parents, placed) as u64;
         let end = to(s, j, starts, sizes, kinds, parents, placed) as u64;
         return (start <= b) & (b < end);

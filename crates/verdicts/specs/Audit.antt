@@ -11,6 +11,8 @@ use Rattle.verdicts.specs.Sweep.{total, bytes, sweep}
 use Rattle.verdicts.specs.Fragments.{Moof, follow}
 use Rattle.verdicts.specs.declared.Verdict.{Verdict}
 use Rattle.verdicts.specs.declared.Verdict.the-variants.{Clean, Found}
+use Rattle.verdicts.specs.declared.Audited.{Audited}
+use Rattle.verdicts.specs.declared.Audited.the-variants as answer
 
 -- F1, by track
 abbrev pub agreements : List Track → List Answer
@@ -44,3 +46,8 @@ verdict ts m (found f) = Found f
 
 unfoldable pub auditOf : List Track → List Span → List Moof → Verdict
 auditOf ts m fs = verdict ts m (firstFound (questions ts m fs))
+
+-- a verdict as the answer to a file
+abbrev pub audited : Verdict → Audited
+audited (Clean a b c) = answer.Clean a b c
+audited (Found f) = answer.Found f

@@ -1,5 +1,6 @@
 // What an audit answers. What it means is in specs/, what clean means in specs/Meaning.antt; the walks over a file
 // promise equations with these definitions.
+use numbers::Refusal;
 
 // A finding by its number, F1 to F8; each other field is 0 where that finding does not use it. The track is the number
 // in its tkhd, which is never 0; samples count from 1.
@@ -25,4 +26,15 @@ pub enum Verdict {
         media: u64,
     },
     Found(Finding),
+}
+
+// The answer to a file: a verdict, or why it is refused.
+pub enum Audited {
+    Clean {
+        tracks: u32,
+        samples: u64,
+        media: u64,
+    },
+    Found(Finding),
+    Refused(Refusal),
 }

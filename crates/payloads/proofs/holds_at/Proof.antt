@@ -7,8 +7,8 @@ use borrow.Author.Needs.{needs}
 use Rattle.payloads.proofs.holds_at.Statement.{statement}
 use Rattle.payloads.proofs.holds_at.Tie as tie
 
-is-mdat-requires : tie.Need-is-mdat-requires
-is-mdat-requires c κs = search needs
+is-media-requires : tie.Need-is-media-requires
+is-media-requires c κs = search needs
 
 from-requires : tie.Need-from-requires
 from-requires c κs = search needs
@@ -17,10 +17,10 @@ to-requires : tie.Need-to-requires
 to-requires c κs = search needs
 
 returns : tie.Need-returns
-returns c = by-true _ _ _ _ (sym (c .before .before .before .is-mdat .ensures) ∙ (c .before .before .if1 .taken)) (ap₂ (λ (x y : ℕ). leb x (c .before .before .before .before .before .args .b) && ltb (c .before .before .before .before .before .args .b) y) (c .before .from .ensures) (c .to .ensures))
+returns c = by-true _ _ _ _ (sym (c .before .before .before .is-media .ensures) ∙ (c .before .before .if1 .taken)) (ap₂ (λ (x y : ℕ). leb x (c .before .before .before .before .before .args .b) && ltb (c .before .before .before .before .before .args .b) y) (c .before .from .ensures) (c .to .ensures))
 
 returns-2 : tie.Need-returns-2
-returns-2 c = by-false _ _ _ _ (sym (c .before .is-mdat .ensures) ∙ (c .if1 .left)) refl
+returns-2 c = by-false _ _ _ _ (sym (c .before .is-media .ensures) ∙ (c .if1 .left)) refl
 
 pub holds-at-spec : {M : Type 1} → statement M
-holds-at-spec = tie.close (tie.spec is-mdat-requires from-requires to-requires returns returns-2)
+holds-at-spec = tie.close (tie.spec is-media-requires from-requires to-requires returns returns-2)

@@ -19,8 +19,8 @@ rows-requires c κs = search needs
 loop-holds : tie.Need-loop-holds Inv-loop μ-loop
 loop-holds c = refl
 
-is-mdat-requires : tie.Need-is-mdat-requires Inv-loop μ-loop
-is-mdat-requires c κs = search needs
+is-media-requires : tie.Need-is-media-requires Inv-loop μ-loop
+is-media-requires c κs = search needs
 
 from-requires : tie.Need-from-requires Inv-loop μ-loop
 from-requires c κs = search needs
@@ -32,7 +32,7 @@ add-t15 : tie.Need-add-t15 Inv-loop μ-loop
 add-t15 c = search needs
 
 returns : tie.Need-returns Inv-loop μ-loop
-returns c = here _ _ _ _ _ (c .before .before .before .before .loop-test .taken) (c .before .before .before .is-mdat .ensures) _ _ (c .before .before .if1 .taken) (c .before .from .ensures) (c .to .ensures) ∙ (c .before .before .before .before .before .loop .inv) ∙ ap (λ k. nextIn (c .before .before .before .before .before .before .before .before .args .s .now) (boxes (c .before .before .before .before .before .before .before .before .args .starts .now) (c .before .before .before .before .before .before .before .before .args .sizes .now) (c .before .before .before .before .before .before .before .before .args .kinds .now) (c .before .before .before .before .before .before .before .before .args .parents .now) (c .before .before .before .before .before .before .before .before .args .placed .now)) (k - c .before .before .before .before .before .before .before .before .args .i) (c .before .before .before .before .before .before .before .before .args .i)) (c .before .before .before .before .before .before .rows .ensures)
+returns c = here _ _ _ _ _ (c .before .before .before .before .loop-test .taken) (c .before .before .before .is-media .ensures) _ _ (c .before .before .if1 .taken) (c .before .from .ensures) (c .to .ensures) ∙ (c .before .before .before .before .before .loop .inv) ∙ ap (λ k. nextIn (c .before .before .before .before .before .before .before .before .args .s .now) (boxes (c .before .before .before .before .before .before .before .before .args .starts .now) (c .before .before .before .before .before .before .before .before .args .sizes .now) (c .before .before .before .before .before .before .before .before .args .kinds .now) (c .before .before .before .before .before .before .before .before .args .parents .now) (c .before .before .before .before .before .before .before .before .args .placed .now)) (k - c .before .before .before .before .before .before .before .before .args .i) (c .before .before .before .before .before .before .before .before .args .i)) (c .before .before .before .before .before .before .rows .ensures)
 
 add-j : tie.Need-add-j Inv-loop μ-loop
 add-j c = search needs
@@ -41,7 +41,7 @@ loop-less : tie.Need-loop-less Inv-loop μ-loop
 loop-less c = search needs
 
 loop-again : tie.Need-loop-again Inv-loop μ-loop
-loop-again c = further _ _ _ _ _ (c .before .before .loop-test .taken) (c .before .is-mdat .ensures) (c .if1 .left) ∙ (c .before .before .before .loop .inv)
+loop-again c = further _ _ _ _ _ (c .before .before .loop-test .taken) (c .before .is-media .ensures) (c .if1 .left) ∙ (c .before .before .before .loop .inv)
 
 returns-2 : tie.Need-returns-2 Inv-loop μ-loop
 returns-2 c = over _ _ _ _ (c .loop-test .left) ∙ (c .before .loop .inv) ∙ ap (λ k. nextIn (c .before .before .before .before .args .s .now) (boxes (c .before .before .before .before .args .starts .now) (c .before .before .before .before .args .sizes .now) (c .before .before .before .before .args .kinds .now) (c .before .before .before .before .args .parents .now) (c .before .before .before .before .args .placed .now)) (k - c .before .before .before .before .args .i) (c .before .before .before .before .args .i)) (c .before .before .rows .ensures)
@@ -54,7 +54,7 @@ next-spec =
     μ-loop
     rows-requires
     loop-holds
-    is-mdat-requires
+    is-media-requires
     from-requires
     to-requires
     add-t15

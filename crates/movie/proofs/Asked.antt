@@ -1,0 +1,36 @@
+-- What an answer says that the code tells. Assumes nothing.
+use Prim.Native.Nat.{ℕ}
+use mathlib.Core.Path.{_≡_, refl, sym, ap, _∙_}
+use mathlib.Core.List.{List, _∷_}
+use native.Mathlib.Omega.{arith}
+use Rattle.verdicts.specs.Findings.{Answer, passes, found, firstFound, asked}
+use Rattle.verdicts.specs.declared.Finding.{Finding}
+use Rattle.verdicts.specs.declared.Asked.{Asked}
+use Rattle.verdicts.specs.declared.Asked.the-variants as told
+
+findingOf : Asked → Answer
+findingOf told.Passes = passes
+findingOf (told.Found x) = found x
+
+module _ (a : Answer) (r : Asked) (e : r ≡ asked a) where
+  back : findingOf r ≡ a
+  unfolding findingOf
+  back = ap findingOf e ∙ cases a
+    where
+      cases : (a : Answer) → findingOf (asked a) ≡ a
+      cases passes = refl
+      cases (found x) = refl
+
+  pub is-found : (x : Finding) → r ≡ told.Found x → a ≡ found x
+  unfolding findingOf
+  is-found x q = sym back ∙ ap findingOf q
+
+  pub is-passed : r ≡ told.Passes → a ≡ passes
+  unfolding findingOf
+  is-passed q = sym back ∙ ap findingOf q
+
+  pub first-stops : (l : List Answer) (x : Finding) → r ≡ told.Found x → told.Found x ≡ asked (firstFound (a ∷ l))
+  first-stops l x q = sym (ap (λ (b : Answer). asked (firstFound (b ∷ l))) (is-found x q))
+
+  pub first-goes : (l : List Answer) → r ≡ told.Passes → firstFound l ≡ firstFound (a ∷ l)
+  first-goes l q = sym (ap (λ (b : Answer). firstFound (b ∷ l)) (is-passed q))
