@@ -1,0 +1,4 @@
+pub mod Zeros
+pub mod Pass
+pub mod Vectors
+mod Unique
