@@ -1,0 +1,4 @@
+mod Laws
+mod Steps
+mod Unique
+mod Vectors
