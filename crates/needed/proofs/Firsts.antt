@@ -4,7 +4,7 @@ use mathlib.Core.Bool.{Bool, true, false}
 use Prim.Native.Nat.{ℕ, zero, suc, _+_, _<_, _≤_}
 use native.Mathlib.Numerals.{add-one}
 use native.Mathlib.Omega.{arith}
-use lib.Dec.{eqb, ltb}
+use lib.Dec.{ltb}
 use borrow.Author.Tests.{ltb-true, ltb-false}
 use Rattle.numbers.specs.Field.{when}
 use Rattle.numbers.proofs.Chain.{by-true, by-false, is-eq, is-ne}
@@ -39,14 +39,3 @@ module _ (test : ℕ → Bool) (j : ℕ) (t : Bool) (e : rowOf test j ≡ 0) (g 
 
   pub row-at : (i : ℕ) → j < i → t ≡ true → j + 1 ≡ rowOf test i
   row-at i l h = first-at (λ j. when (test j) (j + 1) 0) i j (j + 1) l e (by-true _ _ _ (test j) (sym g ∙ h) refl) (λ z. omega (arith, z))
-
--- a row's number and 1 is at most the number of the rows
-pub row-most : (test : ℕ → Bool) (n : ℕ) → rowOf test n ≤ n
-unfolding first when
-row-most test zero = omega arith
-row-most test (suc n) = by (eqb (rowOf test n) 0) (test n) (row-most test n)
-  where
-    by : (s t : Bool) → rowOf test n ≤ n → when s (when t (n + 1) 0) (rowOf test n) ≤ suc n
-    by true true h = omega arith
-    by true false h = omega arith
-    by false t h = omega (arith, h)

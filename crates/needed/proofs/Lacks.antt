@@ -8,32 +8,10 @@ use Rattle.numbers.specs.Field.{when}
 use Rattle.numbers.proofs.Chain.{is-eq, is-ne}
 use Rattle.places.specs.Kinds.{trex, tfhd}
 use Rattle.kin.specs.Kin.{Boxes}
-use Rattle.needed.specs.Needed.{inParent, child, each, needed, trackOf, extends, trexOf, neededTrex, missing}
+use Rattle.inside.specs.Inside.{inParent, child}
+use Rattle.needed.specs.Needed.{each, needed, trackOf, extends, trexOf, neededTrex, missing}
 use Rattle.needed.specs.declared.Missing.the-variants.{Nothing, Box}
-use Rattle.needed.proofs.Firsts.{first-none, first-next, first-at, first-end, row-next, row-at, row-most}
-
--- THE FIRST CHILD
-
-module _ (t : Boxes) (kind p : ℕ) where
-  pub child-none : child t 0 kind p ≡ 0
-  unfolding child
-  child-none = first-none _
-
-  pub child-next : (j : ℕ) (r : Bool) → child t j kind p ≡ 0 → r ≡ inParent t kind p j → r ≡ false → child t (j + 1) kind p ≡ 0
-  unfolding child
-  child-next j r e g h = row-next (inParent t kind p) j r e g h
-
-  pub child-at : (i j : ℕ) (r : Bool) → j < i → child t j kind p ≡ 0 → r ≡ inParent t kind p j → r ≡ true → j + 1 ≡ child t i kind p
-  unfolding child
-  child-at i j r l e g h = row-at (inParent t kind p) j r e g i l h
-
-  pub child-end : (i j : ℕ) → j ≤ i → i ≤ j → child t j kind p ≡ 0 → 0 ≡ child t i kind p
-  unfolding child
-  child-end i j l h e = first-end _ i j l h e
-
-  pub child-most : (n : ℕ) → child t n kind p ≤ n
-  unfolding child
-  child-most n = row-most (inParent t kind p) n
+use Rattle.needed.proofs.Firsts.{first-none, first-next, first-at, first-end, row-next, row-at}
 
 -- THE TREX OF A TRACK
 

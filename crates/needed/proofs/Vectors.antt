@@ -12,7 +12,8 @@ use Rattle.places.specs.Kinds.{ftyp, moov, moof, mvhd, trak, mvex, trex, tkhd, 
 use Rattle.keys.specs.Key.{keys, pickKey}
 use Rattle.kin.specs.Kin.{boxes}
 use Rattle.needed.specs.First.{first}
-use Rattle.needed.specs.Needed.{child, each, needed, inStbl, inMinf, inMdia, inTrak, trexOf, neededTrex, inTraf, inMoof, inFile, missingOf}
+use Rattle.inside.specs.Inside.{nextIn, child}
+use Rattle.needed.specs.Needed.{each, needed, inStbl, inMinf, inMdia, inTrak, trexOf, neededTrex, inTraf, inMoof, inFile, missingOf}
 use Rattle.needed.specs.declared.Missing.{Missing}
 use Rattle.needed.specs.declared.Missing.the-variants.{Nothing, Box}
 
@@ -23,35 +24,35 @@ lacks kinds parents = missingOf [] (boxes [] [] kinds parents (replicate (length
 -- THE FILE
 
 empty : lacks [] [] ≡ Box ftyp
-unfolding when first child each needed inFile
+unfolding when nextIn first child each needed inFile
 empty = refl
 
 -- a moov alone does not make up for the ftyp
 no-ftyp : lacks (moov ∷ mvhd ∷ []) (0 ∷ 1 ∷ []) ≡ Box ftyp
-unfolding when first child each needed inFile
+unfolding when nextIn first child each needed inFile
 no-ftyp = refl
 
 no-moov : lacks (ftyp ∷ []) (0 ∷ []) ≡ Box moov
-unfolding when first child each needed inFile
+unfolding when nextIn first child each needed inFile
 no-moov = refl
 
 -- an mvhd in another parent does not count
 no-mvhd : lacks (ftyp ∷ moov ∷ mvhd ∷ []) (0 ∷ 0 ∷ 0 ∷ []) ≡ Box mvhd
-unfolding when first child each needed inFile
+unfolding when nextIn first child each needed inFile
 no-mvhd = refl
 
 -- a file without tracks and fragments lacks nothing
 bare : lacks (ftyp ∷ moov ∷ mvhd ∷ []) (0 ∷ 0 ∷ 2 ∷ []) ≡ Nothing
-unfolding when first child each needed inFile
+unfolding when nextIn first child each needed inFile
 bare = refl
 
 -- a box that does not stand in its place does not count, nor one behind the recorded
 unplaced : missingOf [] (boxes [] [] (ftyp ∷ moov ∷ mvhd ∷ []) (0 ∷ 0 ∷ 2 ∷ []) (1 ∷ 0 ∷ 1 ∷ [])) 3 ≡ Box moov
-unfolding when first child each needed inFile
+unfolding when nextIn first child each needed inFile
 unplaced = refl
 
 unrecorded : missingOf [] (boxes [] [] (ftyp ∷ moov ∷ mvhd ∷ []) (0 ∷ 0 ∷ 2 ∷ []) (1 ∷ 1 ∷ 1 ∷ [])) 2 ≡ Box mvhd
-unfolding when first child each needed inFile
+unfolding when nextIn first child each needed inFile
 unrecorded = refl
 
 -- A TRACK
@@ -67,49 +68,49 @@ abbrev parents : List ℕ
 parents = 0 ∷ 0 ∷ 2 ∷ 2 ∷ 4 ∷ 4 ∷ 6 ∷ 6 ∷ 6 ∷ 9 ∷ 9 ∷ 11 ∷ 11 ∷ 11 ∷ 11 ∷ 11 ∷ []
 
 whole : lacks (track (stsd ∷ stts ∷ stsc ∷ stsz ∷ stco ∷ [])) parents ≡ Nothing
-unfolding when first child each needed inStbl inMinf inMdia inTrak inFile
+unfolding when nextIn first child each needed inStbl inMinf inMdia inTrak inFile
 whole = refl
 
 wide-offsets : lacks (track (stsd ∷ stts ∷ stsc ∷ stsz ∷ co64 ∷ [])) parents ≡ Nothing
-unfolding when first child each needed inStbl inMinf inMdia inTrak inFile
+unfolding when nextIn first child each needed inStbl inMinf inMdia inTrak inFile
 wide-offsets = refl
 
 -- neither of the two forms: the letters are stco
 no-offsets : lacks (track (stsd ∷ stts ∷ stsc ∷ stsz ∷ [])) parents ≡ Box stco
-unfolding when first child each needed inStbl inMinf inMdia inTrak inFile
+unfolding when nextIn first child each needed inStbl inMinf inMdia inTrak inFile
 no-offsets = refl
 
 no-stts : lacks (track (stsd ∷ stsc ∷ [])) parents ≡ Box stts
-unfolding when first child each needed inStbl inMinf inMdia inTrak inFile
+unfolding when nextIn first child each needed inStbl inMinf inMdia inTrak inFile
 no-stts = refl
 
 -- what would stand in a missing mdia is not asked for; the tkhd comes first
 no-mdia : lacks (head ++ (trak ∷ tkhd ∷ [])) parents ≡ Box mdia
-unfolding when first child each needed inStbl inMinf inMdia inTrak inFile
+unfolding when nextIn first child each needed inStbl inMinf inMdia inTrak inFile
 no-mdia = refl
 
 no-tkhd : lacks (head ++ (trak ∷ [])) parents ≡ Box tkhd
-unfolding when first child each needed inStbl inMinf inMdia inTrak inFile
+unfolding when nextIn first child each needed inStbl inMinf inMdia inTrak inFile
 no-tkhd = refl
 
 -- the second track
 second : lacks (track (stsd ∷ stts ∷ stsc ∷ stsz ∷ stco ∷ trak ∷ tkhd ∷ [])) (parents ++ (2 ∷ 17 ∷ [])) ≡ Box mdia
-unfolding when first child each needed inStbl inMinf inMdia inTrak inFile
+unfolding when nextIn first child each needed inStbl inMinf inMdia inTrak inFile
 second = refl
 
 -- A FRAGMENT
 
 -- the moof comes first in the file; still the track is asked first
 early : lacks (ftyp ∷ moof ∷ moov ∷ mvhd ∷ trak ∷ []) (0 ∷ 0 ∷ 0 ∷ 3 ∷ 3 ∷ []) ≡ Box tkhd
-unfolding when first child each needed inStbl inMinf inMdia inTrak inTraf inMoof inFile
+unfolding when nextIn first child each needed inStbl inMinf inMdia inTrak inTraf inMoof inFile
 early = refl
 
 no-mfhd : lacks (ftyp ∷ moov ∷ mvhd ∷ moof ∷ []) (0 ∷ 0 ∷ 2 ∷ 0 ∷ []) ≡ Box mfhd
-unfolding when first child each needed inStbl inMinf inMdia inTrak inTraf inMoof inFile
+unfolding when nextIn first child each needed inStbl inMinf inMdia inTrak inTraf inMoof inFile
 no-mfhd = refl
 
 no-tfhd : lacks (ftyp ∷ moov ∷ mvhd ∷ moof ∷ mfhd ∷ traf ∷ []) (0 ∷ 0 ∷ 2 ∷ 0 ∷ 4 ∷ 4 ∷ []) ≡ Box tfhd
-unfolding when first child each needed inStbl inMinf inMdia inTrak inTraf inMoof inFile
+unfolding when nextIn first child each needed inStbl inMinf inMdia inTrak inTraf inMoof inFile
 no-tfhd = refl
 
 -- a trex of track 7, and a fragment of some track with what follows its tfhd
@@ -122,18 +123,18 @@ extended number rest =
     11
 
 all-there : extended 7 (tfdt ∷ trun ∷ []) ≡ Nothing
-unfolding be bytes field when ruleOf one decode keys pickKey first child each needed inTrak trexOf neededTrex inTraf inMoof inFile
+unfolding be bytes field when ruleOf one decode keys pickKey nextIn first child each needed inTrak trexOf neededTrex inTraf inMoof inFile
 all-there = refl
 
 -- the trex of another track does not serve
 other-trex : extended 8 (tfdt ∷ trun ∷ []) ≡ Box trex
-unfolding be bytes field when ruleOf one decode keys pickKey first child each needed inTrak trexOf neededTrex inTraf inMoof inFile
+unfolding be bytes field when ruleOf one decode keys pickKey nextIn first child each needed inTrak trexOf neededTrex inTraf inMoof inFile
 other-trex = refl
 
 no-tfdt : extended 7 (trun ∷ []) ≡ Box tfdt
-unfolding be bytes field when ruleOf one decode keys pickKey first child each needed inTrak trexOf neededTrex inTraf inMoof inFile
+unfolding be bytes field when ruleOf one decode keys pickKey nextIn first child each needed inTrak trexOf neededTrex inTraf inMoof inFile
 no-tfdt = refl
 
 no-trun : extended 7 (tfdt ∷ []) ≡ Box trun
-unfolding be bytes field when ruleOf one decode keys pickKey first child each needed inTrak trexOf neededTrex inTraf inMoof inFile
+unfolding be bytes field when ruleOf one decode keys pickKey nextIn first child each needed inTrak trexOf neededTrex inTraf inMoof inFile
 no-trun = refl

@@ -11,19 +11,12 @@ use Rattle.numbers.specs.Field.{when}
 use Rattle.places.specs.Kinds.{ftyp, moov, moof, mvhd, trak, trex, tkhd, mdia, mdhd, hdlr, minf, dinf, stbl, stsd, stts, stsc, stsz, stco, co64, mfhd, traf, tfhd, tfdt, trun}
 use Rattle.places.specs.Visit.{boxLimit}
 use Rattle.keys.specs.Key.{keyOf}
-use Rattle.kin.specs.Kin.{Boxes, at, stands}
+use Rattle.kin.specs.Kin.{Boxes, stands}
+use Rattle.inside.specs.Inside.{inParent, child}
 use Rattle.contents.specs.Held.{partOf, numberIn, is}
 use Rattle.needed.specs.First.{orElse, first, rowOf}
 use Rattle.needed.specs.declared.Missing.{Missing}
 use Rattle.needed.specs.declared.Missing.the-variants.{Nothing, Box}
-
--- box j stands in its place, is of this type and is in the parent p (its row and 1, or 0 for the file)
-abbrev pub inParent : Boxes → ℕ → ℕ → ℕ → Bool
-inParent t kind p j = _&&_ (stands t kind j) (eqb (at (t .parents) j) p)
-
--- the first of n boxes that is of this type and in the parent p: its row and 1, or 0
-unfoldable pub child : Boxes → ℕ → ℕ → ℕ → ℕ
-child t n kind p = rowOf (inParent t kind p) n
 
 -- what the first of the boxes of this type in the parent p lacks that lacks something
 unfoldable pub each : Boxes → ℕ → ℕ → ℕ → (ℕ → ℕ) → ℕ

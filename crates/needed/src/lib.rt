@@ -7,8 +7,8 @@ ghost use Rattle.needed.specs.First.{orElse};
 ghost use Rattle.needed.specs.Needed.{inFile, missingOf};
 use places::kinds;
 
-pub mod inside;
 pub mod moofs;
+pub mod parent;
 pub mod traks;
 
 // The four letters of a box, as the number that they are.

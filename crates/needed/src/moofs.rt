@@ -6,8 +6,9 @@ ghost use Rattle.places.specs.Kinds.{moof, trex, traf};
 ghost use Rattle.keys.specs.Key.{keyOf};
 ghost use Rattle.kin.specs.Kin.{boxes, stands};
 ghost use Rattle.contents.specs.Held.{partOf, is};
-ghost use Rattle.needed.specs.Needed.{inParent, each, trackOf, extends, trexOf, inTraf, inMoof};
-use crate::inside;
+ghost use Rattle.inside.specs.Inside.{inParent};
+ghost use Rattle.needed.specs.Needed.{each, trackOf, extends, trexOf, inTraf, inMoof};
+use crate::parent;
 use keys::Key;
 use places::kinds;
 
@@ -153,7 +154,7 @@ fn traf_at(
     requires { ⌜ (j < n) × (n ≤ 4096) ⌝ }
     ensures { λ r. ⌜ r ≡ when (inParent (boxes (now (starts .entry)) (now (sizes .entry)) (now (kinds .entry)) (now (parents .entry)) (now (placed .entry))) traf moof j) (inTraf (now (s .entry)) (boxes (now (starts .entry)) (now (sizes .entry)) (now (kinds .entry)) (now (parents .entry)) (now (placed .entry))) n (j + 1)) 0 ⌝ }
 {
-    if inside::in_parent(kinds::TRAF, moof, j, starts, sizes, kinds, parents, placed) {
+    if parent::in_parent(kinds::TRAF, moof, j, starts, sizes, kinds, parents, placed) {
         return in_traf(s, j + 1, n, starts, sizes, kinds, parents, placed);
     }
     0
@@ -217,7 +218,7 @@ fn moof_at(
     requires { ⌜ (j < n) × (n ≤ 4096) ⌝ }
     ensures { λ r. ⌜ r ≡ when (inParent (boxes (now (starts .entry)) (now (sizes .entry)) (now (kinds .entry)) (now (parents .entry)) (now (placed .entry))) moof 0 j) (inMoof (now (s .entry)) (boxes (now (starts .entry)) (now (sizes .entry)) (now (kinds .entry)) (now (parents .entry)) (now (placed .entry))) n (j + 1)) 0 ⌝ }
 {
-    if inside::in_parent(kinds::MOOF, 0, j, starts, sizes, kinds, parents, placed) {
+    if parent::in_parent(kinds::MOOF, 0, j, starts, sizes, kinds, parents, placed) {
         return in_moof(s, j + 1, n, starts, sizes, kinds, parents, placed);
     }
     0

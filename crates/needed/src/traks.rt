@@ -4,8 +4,9 @@ ghost use Prim.Native.Nat.{_<_, _≤_, _+_};
 ghost use Rattle.numbers.specs.Field.{when};
 ghost use Rattle.places.specs.Kinds.{trak};
 ghost use Rattle.kin.specs.Kin.{boxes};
-ghost use Rattle.needed.specs.Needed.{inParent, each, inStbl, inMinf, inMdia, inTrak};
-use crate::inside;
+ghost use Rattle.inside.specs.Inside.{inParent};
+ghost use Rattle.needed.specs.Needed.{each, inStbl, inMinf, inMdia, inTrak};
+use crate::parent;
 use places::kinds;
 
 fn in_stbl(
@@ -124,7 +125,7 @@ fn trak_at(
     requires { ⌜ (j < n) × (n ≤ 4096) ⌝ }
     ensures { λ r. ⌜ r ≡ when (inParent (boxes (now (starts .entry)) (now (sizes .entry)) (now (kinds .entry)) (now (parents .entry)) (now (placed .entry))) trak moov j) (inTrak (boxes (now (starts .entry)) (now (sizes .entry)) (now (kinds .entry)) (now (parents .entry)) (now (placed .entry))) n (j + 1)) 0 ⌝ }
 {
-    if inside::in_parent(kinds::TRAK, moov, j, starts, sizes, kinds, parents, placed) {
+    if parent::in_parent(kinds::TRAK, moov, j, starts, sizes, kinds, parents, placed) {
         return in_trak(j + 1, n, starts, sizes, kinds, parents, placed);
     }
     0

@@ -2,28 +2,29 @@ use mathlib.Core.Path.{ap, ap₂, _∙_}
 use borrow.Author.Needs.{needs}
 use Rattle.places.specs.Kinds.{mvhd, trak}
 use Rattle.kin.specs.Kin.{boxes}
-use Rattle.needed.specs.Needed.{child, each, inTrak, inFile}
+use Rattle.inside.specs.Inside.{child}
+use Rattle.needed.specs.Needed.{each, inTrak, inFile}
 use Rattle.needed.specs.First.{orElse}
 use Rattle.needed.proofs.Lacks.{lacking, present}
 use Rattle.needed.proofs.in_file.Statement.{statement}
 use Rattle.needed.proofs.in_file.Tie as tie
 
 child-requires : tie.Need-child-requires
-child-requires c κs = c .before .pre
+child-requires c κs = search needs
 
 returns : tie.Need-returns
 unfolding inFile
 returns c = lacking _ _ _ _ _ _ (c .before .child .ensures) (c .if1 .taken)
 
 child-requires-2 : tie.Need-child-requires-2
-child-requires-2 c κs = c .before .before .before .pre
+child-requires-2 c κs = search needs
 
 returns-2 : tie.Need-returns-2
 unfolding inFile
 returns-2 c = present _ _ _ _ _ _ (c .before .before .before .child .ensures) (c .before .before .if1 .left) (lacking _ _ _ _ _ _ (c .before .child2 .ensures) (c .if2 .taken))
 
 child-requires-3 : tie.Need-child-requires-3
-child-requires-3 c κs = c .before .before .before .before .before .pre
+child-requires-3 c κs = search needs
 
 returns-3 : tie.Need-returns-3
 unfolding inFile

@@ -1,10 +1,12 @@
-use Rattle.needed.specs.Needed.{child, inMoof}
+use borrow.Author.Needs.{needs}
+use Rattle.inside.specs.Inside.{child}
+use Rattle.needed.specs.Needed.{inMoof}
 use Rattle.needed.proofs.Lacks.{lacking, present}
 use Rattle.needed.proofs.moofs.in_moof.Statement.{statement}
 use Rattle.needed.proofs.moofs.in_moof.Tie as tie
 
 child-requires : tie.Need-child-requires
-child-requires c κs = c .before .pre
+child-requires c κs = search needs
 
 returns : tie.Need-returns
 unfolding inMoof

@@ -3,13 +3,15 @@ use native.Mathlib.Omega.{arith}
 use borrow.Author.Needs.{needs}
 use Rattle.places.specs.Kinds.{tfhd}
 use Rattle.kin.specs.Kin.{boxes}
-use Rattle.needed.specs.Needed.{child, inTraf}
-use Rattle.needed.proofs.Lacks.{child-most, lacking, present, trex-lacking, trex-present}
+use Rattle.inside.proofs.Laws.{child-most}
+use Rattle.inside.specs.Inside.{child}
+use Rattle.needed.specs.Needed.{inTraf}
+use Rattle.needed.proofs.Lacks.{lacking, present, trex-lacking, trex-present}
 use Rattle.needed.proofs.moofs.in_traf.Statement.{statement}
 use Rattle.needed.proofs.moofs.in_traf.Tie as tie
 
 child-requires : tie.Need-child-requires
-child-requires c κs = c .before .pre
+child-requires c κs = search needs
 
 returns : tie.Need-returns
 unfolding inTraf
@@ -29,14 +31,14 @@ unfolding inTraf
 returns-2 c = present _ _ _ _ _ _ (c .before .before .before .before .child .ensures) (c .before .before .before .if1 .left) (trex-lacking _ _ _ _ _ _ _ _ (c .before .before .before .before .child .ensures) (c .before .before .track-of .ensures) (c .before .trex-of .ensures) (c .if2 .taken))
 
 child-requires-2 : tie.Need-child-requires-2
-child-requires-2 c κs = c .before .before .before .before .before .before .pre
+child-requires-2 c κs = search needs
 
 returns-3 : tie.Need-returns-3
 unfolding inTraf
 returns-3 c = present _ _ _ _ _ _ (c .before .before .before .before .before .before .child .ensures) (c .before .before .before .before .before .if1 .left) (trex-present _ _ _ _ _ _ _ _ (c .before .before .before .before .before .before .child .ensures) (c .before .before .before .before .track-of .ensures) (c .before .before .before .trex-of .ensures) (c .before .before .if2 .left) (lacking _ _ _ _ _ _ (c .before .child2 .ensures) (c .if3 .taken)))
 
 child-requires-3 : tie.Need-child-requires-3
-child-requires-3 c κs = c .before .before .before .before .before .before .before .before .pre
+child-requires-3 c κs = search needs
 
 returns-4 : tie.Need-returns-4
 unfolding inTraf

@@ -3,7 +3,7 @@ use borrow.Author.Needs.{needs}
 use Rattle.numbers.proofs.Chain.{by-true, by-false}
 use Rattle.places.specs.Kinds.{moof, traf}
 use Rattle.kin.specs.Kin.{boxes}
-use Rattle.needed.specs.Needed.{inParent}
+use Rattle.inside.specs.Inside.{inParent}
 use Rattle.needed.proofs.moofs.traf_at.Statement.{statement}
 use Rattle.needed.proofs.moofs.traf_at.Tie as tie
 

@@ -1,19 +1,21 @@
+use borrow.Author.Needs.{needs}
 use mathlib.Core.Path.{ap, _∙_}
 use Rattle.kin.specs.Kin.{boxes}
-use Rattle.needed.specs.Needed.{child, inMdia, inTrak}
+use Rattle.inside.specs.Inside.{child}
+use Rattle.needed.specs.Needed.{inMdia, inTrak}
 use Rattle.needed.proofs.Lacks.{lacking, present}
 use Rattle.needed.proofs.traks.in_trak.Statement.{statement}
 use Rattle.needed.proofs.traks.in_trak.Tie as tie
 
 child-requires : tie.Need-child-requires
-child-requires c κs = c .pre
+child-requires c κs = search needs
 
 returns : tie.Need-returns
 unfolding inTrak
 returns c = lacking _ _ _ _ _ _ (c .before .child .ensures) (c .if1 .taken)
 
 child-requires-2 : tie.Need-child-requires-2
-child-requires-2 c κs = c .before .before .pre
+child-requires-2 c κs = search needs
 
 returns-2 : tie.Need-returns-2
 unfolding inTrak

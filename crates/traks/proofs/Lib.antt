@@ -1,0 +1,4 @@
+pub mod Laws
+mod Tells
+mod Unique
+mod Vectors
