@@ -1,4 +1,4 @@
 mod Firsts
-mod Lacks
+pub mod Lacks
 mod Unique
 mod Vectors

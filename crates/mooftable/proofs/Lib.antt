@@ -1,0 +1,4 @@
+pub mod Stored
+pub mod Back
+pub mod Vectors
+mod Unique

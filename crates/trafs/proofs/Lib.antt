@@ -1,0 +1,3 @@
+pub mod Steps
+mod Unique
+mod Vectors
