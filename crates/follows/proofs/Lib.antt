@@ -1,0 +1,5 @@
+pub mod Steps
+pub mod Answers
+pub mod Laws
+pub mod Vectors
+mod Unique
