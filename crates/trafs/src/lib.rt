@@ -25,7 +25,7 @@ fn rows(n: usize) -> usize
 }
 
 // What a column of the tables says of the box that is named p, or 0.
-fn of_box(column: &[usize; 4096], p: usize) -> usize
+pub fn of_box(column: &[usize; 4096], p: usize) -> usize
     ensures { λ r. ⌜ r ≡ ofBox (now (column .entry)) p ⌝ }
 {
     if p == 0 {

@@ -1,0 +1,5 @@
+mod Filling
+mod Left
+mod Steps
+mod Unique
+mod Vectors

@@ -1,0 +1,2 @@
+pub mod Moofs
+pub mod Walk
