@@ -7,7 +7,7 @@ use mathlib.Core.Bool.{Bool, true, false}
 use native.Mathlib.Omega.{arith}
 use lib.ListN.{length, take}
 use lib.Seq.{take-take}
-use lib.Dec.{leb, ltb, eqb, leb·zero, leb·suc-zero, leb·suc-suc}
+use lib.Dec.{leb, ltb, eqb, leb·suc-suc}
 use borrow.Author.Tests.{le-leb, lt-leb, lt-ltb, le-ltb}
 use Rattle.numbers.specs.Field.{when}
 use Rattle.numbers.proofs.Chain.{by-true, by-false}
@@ -24,7 +24,6 @@ use Rattle.verdicts.specs.Findings.{Answer, passes, found, firstFound, claim, F
 use Rattle.verdicts.specs.Audit.{sized, lasting, passedIn}
 use Rattle.verdicts.specs.declared.Finding.{Finding}
 use Rattle.passes.specs.Passed.{tell, passedOf, ofSample, beforeZero}
-use Rattle.passes.specs.declared.Passed.{Passed}
 use Rattle.passes.specs.declared.Passed.the-variants.{Over, Fine, Found}
 use Rattle.passes.proofs.Zeros.{zero-first, not-first}
 
@@ -48,10 +47,6 @@ earlier (s ∷ u ∷ l) = s .duration ∷ earlier (u ∷ l)
 abbrev pub From : ℕ → List Sample → Type 0
 From k [] = Unit {0}
 From k (s ∷ l) = (s .number ≡ k + 1) × From (k + 1) l
-
-length-earlier : (s : Sample) (l : List Sample) → length (earlier (s ∷ l)) ≡ length l
-length-earlier s [] = refl
-length-earlier s (u ∷ l) = ap suc (length-earlier u l)
 
 earlier-take : (s : Sample) (l : List Sample) → earlier (s ∷ l) ≡ take (length l) (durationsIn (s ∷ l))
 earlier-take s [] = refl

@@ -2,7 +2,8 @@
 -- fit. The files and tables with names of other crates are those crates' own examples. Assumes nothing.
 use Prim.Native.Nat.{ℕ}
 use mathlib.Core.Path.{_≡_, refl}
-use mathlib.Core.List.{List, [], _++_}
+use mathlib.Core.List.{[], _++_}
+use mathlib.Core.Bool.{true, false}
 use Rattle.numbers.specs.Number.{be, bytes}
 use Rattle.numbers.specs.Field.{field, when}
 use Rattle.signed.specs.Signed.{signed}
@@ -13,8 +14,10 @@ use Rattle.runs.specs.declared.Run.{Run}
 use Rattle.runtable.specs.Table.{numbersOf, rowAt, rowsOf}
 use Rattle.fragments.specs.Samples.{countOf, mine, samplesOfRuns}
 use Rattle.passes.specs.Passed.{passedOf, ofSample}
+use Rattle.verdicts.specs.declared.Asked.the-variants as asked
 use Rattle.passes.specs.declared.Passed.{Passed}
 use Rattle.passes.specs.declared.Passed.the-variants.{Over, Fine, Found}
+use Rattle.runpasses.specs.Walk.{afterSample, toldOf}
 use Rattle.runs.proofs.Vectors as one-run
 use Rattle.fragments.proofs.Vectors as runs
 use Rattle.runlookup.proofs.Vectors as lookups
@@ -71,3 +74,28 @@ empty-and-idle = refl
 found-then-over : passed (alike 1 100 0 4) (alike 1 0xffff_ffff_ffff_ffff 1 4) ≡ Over
 unfolding passedOf be bytes field when optional signed ownOf durationAt sizeAt flagsBy sampleAt runSamples rowAt countOf mine
 found-then-over = refl
+
+-- STEPS
+
+-- F3 of the sample before comes before F2 of this one, and the first finding stays
+step-idle : afterSample asked.Passes 7 true 4 5 0 ≡ asked.Found (ofSample 3 7 4)
+unfolding afterSample when
+step-idle = refl
+
+step-empty : afterSample asked.Passes 7 false 4 5 0 ≡ asked.Found (ofSample 2 7 5)
+unfolding afterSample when
+step-empty = refl
+
+step-fine : afterSample asked.Passes 7 false 4 5 10 ≡ asked.Passes
+unfolding afterSample when
+step-fine = refl
+
+step-found : afterSample (asked.Found (ofSample 2 7 1)) 7 true 4 5 0 ≡ asked.Found (ofSample 2 7 1)
+unfolding afterSample
+step-found = refl
+
+told-fine : toldOf 5 asked.Passes ≡ Fine 5
+told-fine = refl
+
+told-found : toldOf 5 (asked.Found (ofSample 2 7 1)) ≡ Found (ofSample 2 7 1)
+told-found = refl
