@@ -7,7 +7,7 @@ use lib.Seq.{take-append-add, take-append-seam, drop-append-seam}
 use Rattle.runs.specs.declared.Run.{Run}
 use Rattle.verdicts.specs.Findings.{Track, track}
 use Rattle.verdicts.specs.Fragments.{Moof, Clock, free, clocksOf, follow, followFrom}
-use Rattle.follows.specs.Follows.{asTrafs, endBefore, moofsIn, clocks}
+use Rattle.follows.specs.Follows.{asTrafs, endBefore, moofsIn, trackNumbers, clocks, gapsFit, answer, followedOf}
 use Rattle.follows.specs.Fragments.{Fragment, allRuns, rowsBehind, moofsOf}
 
 -- THE ROWS OF FRAGMENTS
@@ -37,14 +37,18 @@ moofs-of-rows f xs = moofs-behind f xs []
 
 -- THE CLOCKS OF THE AUDIT
 
-abbrev pub numbersOf : List Track → List ℕ
-numbersOf [] = []
-numbersOf (track n a l ∷ ts) = n ∷ numbersOf ts
-
-pub clocks-of-tracks : (ts : List Track) → clocksOf ts ≡ clocks (numbersOf ts)
+pub clocks-of-tracks : (ts : List Track) → clocksOf ts ≡ clocks (trackNumbers ts)
 clocks-of-tracks [] = refl
 clocks-of-tracks (track n a l ∷ ts) = ap (λ (cs : List Clock). record { track = n; next = free } ∷ cs) (clocks-of-tracks ts)
 
 -- so its questions are those that are answered here
-pub follow-of-tracks : (ts : List Track) (ms : List Moof) → follow ts ms ≡ followFrom free (clocks (numbersOf ts)) ms
+pub follow-of-tracks : (ts : List Track) (ms : List Moof) → follow ts ms ≡ followFrom free (clocks (trackNumbers ts)) ms
 follow-of-tracks ts ms = ap (λ (cs : List Clock). followFrom free cs ms) (clocks-of-tracks ts)
+
+-- what is answered of fragments that are kept as rows
+pub followed-of-fragments : (f : List ℕ) (xs : List Fragment) (ts : List Track)
+    → followedOf f (allRuns xs) (rowsBehind 0 xs) (trackNumbers ts) ≡ answer (gapsFit (trackNumbers ts) (moofsOf f xs)) (follow ts (moofsOf f xs))
+unfolding followedOf
+followed-of-fragments f xs ts =
+    ap (λ (ms : List Moof). answer (gapsFit (trackNumbers ts) ms) (followFrom free (clocks (trackNumbers ts)) ms)) (moofs-of-rows f xs)
+    ∙ ap (answer (gapsFit (trackNumbers ts) (moofsOf f xs))) (sym (follow-of-tracks ts (moofsOf f xs)))

@@ -1,16 +1,18 @@
 -- Worked examples of the definitions, computed: cases 7 and 8 of document 01, and the order of A34. The tracks have the
 -- numbers 7 and 3, in this order; each run's samples last 3,000. Assumes nothing.
-use Prim.Native.Nat.{ℕ, _^_, _-_}
+use Prim.Native.Nat.{ℕ, _+_, _^_}
 use mathlib.Core.Path.{_≡_, refl}
 use mathlib.Core.List.{List, [], _∷_}
+use mathlib.Core.Bool.{true, false}
 use lib.IntN.{pos, negsuc}
 use Rattle.numbers.specs.Field.{when}
 use Rattle.runs.specs.declared.Run.{Run}
 use Rattle.runs.specs.Values.{durationAt}
 use Rattle.runs.specs.Samples.{durationsIn}
 use Rattle.gaps.specs.Gaps.{gapOf}
-use Rattle.verdicts.specs.Findings.{F7, F8}
-use Rattle.follows.specs.Follows.{numbersIn, moofsIn, answer, followedOf}
+use Rattle.verdicts.specs.Findings.{track, F7, F8}
+use Rattle.verdicts.specs.Fragments.{Moof}
+use Rattle.follows.specs.Follows.{numbersIn, moofsIn, trackNumbers, gapsFit, answer, followedOf}
 use Rattle.follows.specs.Fragments.{Fragment, allRuns, rowsBehind}
 use Rattle.follows.specs.declared.Followed.{Followed}
 use Rattle.follows.specs.declared.Followed.the-variants.{Over, Passes, Found}
@@ -93,3 +95,25 @@ case-rows = refl
 
 case-numbers : numbersIn (7 ∷ 3 ∷ 5 ∷ []) 2 ≡ 7 ∷ 3 ∷ []
 case-numbers = refl
+
+case-tracks : trackNumbers (track 7 true [] ∷ track 3 false [] ∷ []) ≡ 7 ∷ 3 ∷ []
+case-tracks = refl
+
+-- GAPS
+
+-- a traf that lasts n, and one at the same time
+abbrev back : ℕ → List Moof
+back n = record { start = 0; number = 1; trafs = record { track = 7; tfdt = 0; lasts = n } ∷ record { track = 7; tfdt = 0; lasts = 0 } ∷ [] } ∷ []
+
+-- the farthest gap below 0 fits, and one more does not; no other track has one
+case-farthest : gapsFit (7 ∷ []) (back (2 ^ 63)) ≡ true
+unfolding gapOf when
+case-farthest = refl
+
+case-farther : gapsFit (7 ∷ []) (back (2 ^ 63 + 1)) ≡ false
+unfolding gapOf when
+case-farther = refl
+
+case-other : gapsFit (3 ∷ 9 ∷ []) (back (2 ^ 63 + 1)) ≡ true
+unfolding gapOf when
+case-other = refl

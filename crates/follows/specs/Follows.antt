@@ -12,7 +12,7 @@ use Rattle.gaps.specs.Gaps as gaps
 use Rattle.gaps.specs.declared.Gap.{Gap}
 use Rattle.gaps.specs.declared.Gap.the-variants as gap
 use Rattle.mooftable.specs.declared.Moof as row
-use Rattle.verdicts.specs.Findings.{Answer, passes, found, firstFound}
+use Rattle.verdicts.specs.Findings.{Track, track, Answer, passes, found, firstFound}
 use Rattle.verdicts.specs.Fragments.{Traf, Moof, Clock, free, followFrom}
 use Rattle.verdicts.specs.Meaning.{trafsOf}
 use Rattle.follows.specs.declared.Followed.{Followed}
@@ -44,6 +44,11 @@ runsIn rs m ms = drop (m .runs) (take (endBefore rs ms) rs)
 abbrev pub moofsIn : List ℕ → List Run → List row.Moof → List Moof
 moofsIn f rs [] = []
 moofsIn f rs (m ∷ ms) = record { start = m .start; number = m .number; trafs = asTrafs f (runsIn rs m ms) } ∷ moofsIn f rs ms
+
+-- the numbers of tracks
+abbrev pub trackNumbers : List Track → List ℕ
+trackNumbers [] = []
+trackNumbers (track n a l ∷ ts) = n ∷ trackNumbers ts
 
 -- the tracks of these numbers, each with its first time free
 abbrev pub clocks : List ℕ → List Clock
