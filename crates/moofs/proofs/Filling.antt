@@ -78,7 +78,7 @@ tally-moof : (x : Moof) (i k : ℕ) (p : Plan) → tally i (k + 1) p ≡ tally i
 tally-moof x i k (plan rs ms) = let e : k + 1 + length ms ≡ k + suc (length ms) = omega arith in ap (λ (a : ℕ). Are (i + length rs) a) e
 tally-moof x i k (none q) = refl
 
-are-same : (a b c d : ℕ) → Are a b ≡ Are c d → (a ≡ c) × (b ≡ d)
+pub are-same : (a b c d : ℕ) → Are a b ≡ Are c d → (a ≡ c) × (b ≡ d)
 are-same a b c d e = (cc, cc)
 
 -- THE WALK
@@ -213,7 +213,7 @@ stores-none q whole ro r mo m h rs ms e =
 
 -- THE TABLES
 
-length-moofs : (i : ℕ) (fs : List Fragment) → length (moofsFrom i fs) ≡ length fs
+pub length-moofs : (i : ℕ) (fs : List Fragment) → length (moofsFrom i fs) ≡ length fs
 length-moofs i [] = refl
 length-moofs i (f ∷ fs) = ap suc (length-moofs (i + length (f .runs)) fs)
 

@@ -22,7 +22,10 @@ use Rattle.runs.specs.declared.Run.{Run}
 use Rattle.runtable.specs.Table as runtable
 use Rattle.trafs.specs.Trafs.{runOf}
 use Rattle.moofs.specs.Moofs.{Fragment, fragment, all, refused, runsIn, fragmentsIn, fragmentsOf, moofsFrom, output, fillOf}
+use Rattle.moofs.specs.Walk.{still, begins, begun, beginOf, addOf, moveOf, turned, turnOf, leftIn, planOf, tally}
+use Rattle.moofs.specs.declared.Step.the-variants as step
 use Rattle.moofs.specs.declared.Filled.the-variants.{Are, Refused}
+use Rattle.moofs.proofs.Few.{fresh}
 
 -- a trex, a tfhd with these flags and bytes after its track, a tfdt, a trun of three samples and an mfhd of number 5: the
 -- boxes of every moof and traf here
@@ -103,3 +106,23 @@ kept = refl
 none : fillOf (all []) [] (1 ∷ []) ≡ output (Are 0 0) [] (1 ∷ [])
 unfolding when
 none = refl
+
+-- INSIDE
+
+-- the walk has the same rows left to store, and counts them
+walked : leftIn (file 0 []) (tables (replicate 13 1)) 13 13 0 fresh ≡ planOf (all two)
+unfolding be bytes field when signed ruleOf one decode cutOf keys pickKey first trexOf nextIn child runOf sizeAt bytesIn beginOf addOf moveOf leftIn planOf
+walked = refl
+
+counted : tally 0 0 (planOf (all two)) ≡ Are 2 2
+unfolding planOf
+counted = refl
+
+-- a traf outside of any moof does nothing, and a row that has no room is not stored
+outside : moveOf (file 0 []) (tables (replicate 13 1)) 13 3 fresh ≡ still
+unfolding when moveOf
+outside = refl
+
+no-row : turnOf fresh (begins 1000 5) [] (7 ∷ []) ≡ turned (step.On (begun 1000 fresh)) [] (7 ∷ [])
+unfolding when
+no-row = refl
