@@ -1,4 +1,4 @@
-mod Laws
+pub mod Laws
 mod Steps
 mod Unique
 mod Vectors
