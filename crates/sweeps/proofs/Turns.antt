@@ -216,11 +216,11 @@ module _ (hs : List Head) (k n p q : ℕ) (four : length hs ≡ 4) (inside : p �
       at-step : (bs cs : List Claim) → below p ts ≡ bs → heads p ts ≡ cs → step all (span p q ∷ m) ts ≡ take all (span p q) m ts bs cs
       at-step bs cs b h = sym (is-ne _ _ _ p q ne (sym (ap₂ (take all (span p q) m ts) b h)))
 
-      pub strays : l .below < 4 → (l .below < 4) × ((d : Head) → sweepFrom all (span p q ∷ m) ts ≡ strayOf all (getD hs (l .below) d))
-      strays h = (h, λ d. ⊎-elim (λ (a : (l .below ≡ 4) × (below p ts ≡ [])). absurd (omega (arith, a .0, h))) (found-one d) belows)
+      pub strays : l .below < 4 → (d : Head) → sweepFrom all (span p q ∷ m) ts ≡ strayOf all (getD hs (l .below) d)
+      strays h d = ⊎-elim (λ (a : (l .below ≡ 4) × (below p ts ≡ [])). absurd (omega (arith, a .0, h))) found-one belows
         where
-          found-one : (d : Head) → FirstBelow 0 p ts (l .below) → sweepFrom all (span p q ∷ m) ts ≡ strayOf all (getD hs (l .below) d)
-          found-one d a =
+          found-one : FirstBelow 0 p ts (l .below) → sweepFrom all (span p q ∷ m) ts ≡ strayOf all (getD hs (l .below) d)
+          found-one a =
               let w = named d (l .below) (a .number) (a .sample) (a .rest) (a .place) in
               sweep-stops all (span p q ∷ m) ts (misplaced all (claim (a .number) (a .sample))) (at-step (claim (a .number) (a .sample) ∷ a .others) (heads p ts) (a .is) refl)
               ∙ sym (stray-as all (getD hs (l .below) d) (a .number) (a .sample) (w .track-is) (w .number-is) (w .offset-is))

@@ -82,8 +82,8 @@ module _ (all : List Span) (start : List Track) (n : ℕ) (hs : List Head) (xs :
   at-stop : (f : Finding) → r ≡ Stop f → Found f ≡ asked (sweepFrom all all start)
   at-stop f q = ap asked (sym (by (Stop f) q) ∙ w .same)
 
-  at-stray : (t : ℕ) → r ≡ Stray t → (t < 4) × ((d : Head) → strayOf all (getD hs t d) ≡ sweepFrom all all start)
-  at-stray t q = (by (Stray t) q .0, λ d. sym (by (Stray t) q .1 d) ∙ w .same)
+  at-stray : (h : Head) → r ≡ Stray h → strayOf all h ≡ sweepFrom all all start
+  at-stray h q = sym (by (Stray h) q) ∙ w .same
 
   module _ (q : r ≡ Skip) where
     onward : sweepFrom all m (w .left) ≡ sweepFrom all all start
@@ -168,12 +168,8 @@ module _ (all : List Span) (start : List Track) (n : ℕ) (b : Bool) (f : List �
   pub stops : (x : Finding) → r ≡ Stop x → Found x ≡ asked (sweepFrom all all start)
   stops x q = at-stop all start n hs (lanesIn b f rs ns ts ls gs) k p e m (w .sweeping) r i x q
 
-  module _ (t : ℕ) (q : r ≡ Stray t) where
-    pub stray-low : t < 4
-    stray-low = at-stray all start n hs (lanesIn b f rs ns ts ls gs) k p e m (w .sweeping) r i t q .0
-
-    pub strays : (d : Head) → strayOf all (getD hs t d) ≡ sweepFrom all all start
-    strays d = at-stray all start n hs (lanesIn b f rs ns ts ls gs) k p e m (w .sweeping) r i t q .1 d
+  pub strays : (h : Head) → r ≡ Stray h → strayOf all h ≡ sweepFrom all all start
+  strays h q = at-stray all start n hs (lanesIn b f rs ns ts ls gs) k p e m (w .sweeping) r i h q
 
   module _ (q : r ≡ Skip) where
     pub ends : m ≡ [] → leftIn all hs ≡ sweepFrom all all start

@@ -99,7 +99,7 @@ pub record Takes (all : List Span) (c : Span) (m : List Span) (k : ℕ) (hs : Li
 abbrev pub TurnBy : List Span → Span → List Span → ℕ → List Head → List Track → List Track → Turn → Type 0
 TurnBy all c m k hs xs ts Skip = (length ts ≤ k) × (c .from ≡ c .to)
 TurnBy all c m k hs xs ts (Take t q k′) = Takes all c m k hs xs ts t q k′
-TurnBy all c m k hs xs ts (Stray t) = (t < 4) × ((d : Head) → sweepFrom all (c ∷ m) ts ≡ strayOf all (getD hs t d))
+TurnBy all c m k hs xs ts (Stray h) = sweepFrom all (c ∷ m) ts ≡ strayOf all h
 TurnBy all c m k hs xs ts (Stop f) = sweepFrom all (c ∷ m) ts ≡ found f
 
 -- what a turn's answer says of any n tracks that have these heads, whatever payloads follow

@@ -101,7 +101,7 @@ fn claim(number: u32, h: Head) -> Finding
 }
 
 // What comes next: Skip, the payload is at its end; Take, track t's next sample is taken, up to `to`, and its lane is asked
-// for the one after it, so that so many tracks are filled; Stray, track t's next sample starts where it must not.
+// for the one after it, so that so many tracks are filled; Stray, a track's next sample starts where it must not.
 pub(crate) enum Turn {
     Skip,
     Take {
@@ -109,7 +109,7 @@ pub(crate) enum Turn {
         to: u64,
         filled: usize,
     },
-    Stray(usize),
+    Stray(Head),
     Stop(Finding),
 }
 
@@ -132,7 +132,8 @@ fn decide(heads: [Head; 4], filled: usize, count: usize, p: u64, end: u64) -> Tu
     let seen = look(p, heads);
     let below = seen.below;
     if below < 4 {
-        return Turn::Stray(below);
+        let astray = heads[below];
+        return Turn::Stray(astray);
     }
     let first = seen.first;
     if 4 <= first {
@@ -327,9 +328,8 @@ pub fn sweep(
             Turn::Stop(finding) => {
                 return Asked::Found(finding);
             }
-            Turn::Stray(t) => {
-                let h = heads[t];
-                return stray(file, n, starts, sizes, kinds, parents, placed, h);
+            Turn::Stray(astray) => {
+                return stray(file, n, starts, sizes, kinds, parents, placed, astray);
             }
             Turn::Skip => {
                 match payloads::next(file, n, row, starts, sizes, kinds, parents, placed) {

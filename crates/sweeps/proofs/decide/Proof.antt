@@ -6,8 +6,8 @@ use borrow.Author.Needs.{needs}
 use Rattle.sweeps.proofs.decide.Statement.{statement}
 use Rattle.sweeps.proofs.decide.Tie as tie
 
-add-t15 : tie.Need-add-t15
-add-t15 c = search needs
+add-t16 : tie.Need-add-t16
+add-t16 c = search needs
 
 returns : tie.Need-returns
 returns c = λ all m xs ts len st. let four : length (c .before .args .t1) ≡ 4 = omega arith in fills (c .before .args .t1) (c .before .args .filled) (c .before .args .count) (c .before .args .p) (c .before .args .end) four (c .before .pre) all m xs ts len st (c .if1 .taken)
@@ -18,8 +18,14 @@ returns-2 c = λ all m xs ts len st. let four : length (c .before .before .args 
 look-requires : tie.Need-look-requires
 look-requires c κs = search needs
 
+mul-astray : tie.Need-mul-astray
+mul-astray c = search needs
+
+array-copy-out-astray : tie.Need-array-copy-out-astray
+array-copy-out-astray c = search needs
+
 returns-3 : tie.Need-returns-3
-returns-3 c = λ all m xs ts len st. let four : length (c .before .before .before .before .args .t1) ≡ 4 = omega arith in strays (c .before .before .before .before .args .t1) (c .before .before .before .before .args .filled) (c .before .before .before .before .args .count) (c .before .before .before .before .args .p) (c .before .before .before .before .args .end) four (c .before .before .before .before .pre) all m xs ts len st (c .before .before .before .if1 .left) (c .before .before .if2 .left) _ (c .before .look .ensures) (c .if3 .taken)
+returns-3 c = λ all m xs ts len st. let four : length (c .before .before .before .before .before .args .t1) ≡ 4 = omega arith in strays (c .before .before .before .before .before .args .t1) (c .before .before .before .before .before .args .filled) (c .before .before .before .before .before .args .count) (c .before .before .before .before .before .args .p) (c .before .before .before .before .before .args .end) four (c .before .before .before .before .before .pre) all m xs ts len st (c .before .before .before .before .if1 .left) (c .before .before .before .if2 .left) _ (c .before .before .look .ensures) (c .before .if3 .taken) _
 
 returns-4 : tie.Need-returns-4
 returns-4 c = λ all m xs ts len st. let four : length (c .before .before .before .before .before .args .t1) ≡ 4 = omega arith in holes (c .before .before .before .before .before .args .t1) (c .before .before .before .before .before .args .filled) (c .before .before .before .before .before .args .count) (c .before .before .before .before .before .args .p) (c .before .before .before .before .before .args .end) four (c .before .before .before .before .before .pre) all m xs ts len st (c .before .before .before .before .if1 .left) (c .before .before .before .if2 .left) _ (c .before .before .look .ensures) (c .before .if3 .left) (c .if4 .taken)
@@ -48,8 +54,8 @@ cast-size c = search needs
 sub-if6 : tie.Need-sub-if6
 sub-if6 c = search needs
 
-add-t28 : tie.Need-add-t28
-add-t28 c = search needs
+add-t33 : tie.Need-add-t33
+add-t33 c = search needs
 
 returns-6 : tie.Need-returns-6
 returns-6 c = λ all m xs ts len st. let four : length (c .before .before .before .before .before .before .before .before .before .args .t1) ≡ 4 = omega arith in takes (c .before .before .before .before .before .before .before .before .before .args .t1) (c .before .before .before .before .before .before .before .before .before .args .filled) (c .before .before .before .before .before .before .before .before .before .args .count) (c .before .before .before .before .before .before .before .before .before .args .p) (c .before .before .before .before .before .before .before .before .before .args .end) four (c .before .before .before .before .before .before .before .before .before .pre) all m xs ts len st (c .before .before .before .before .before .before .before .before .if1 .left) (c .before .before .before .before .before .before .before .if2 .left) _ (c .before .before .before .before .before .before .look .ensures) (c .before .before .before .before .before .if3 .left) (c .before .before .before .before .if4 .left) (c .before .before .before .if5 .left) _ (omega (arith, c .before .before .before .before .before .before .before .before .before .pre, c .if6 .taken))
@@ -64,10 +70,12 @@ pub decide-spec : {M : Type 1} → statement M
 decide-spec =
     tie.close
     (tie.spec
-    add-t15
+    add-t16
     returns
     returns-2
     look-requires
+    mul-astray
+    array-copy-out-astray
     returns-3
     returns-4
     mul-other
@@ -78,7 +86,7 @@ decide-spec =
     array-copy-out-h
     cast-size
     sub-if6
-    add-t28
+    add-t33
     returns-6
     claim-requires-2
     returns-7)

@@ -11,7 +11,7 @@ use Rattle.payloads.specs.Payloads.{payloadsFrom}
 use Rattle.sweeps.specs.Tracks.{tracksIn}
 use Rattle.sweeps.specs.Heads.{weight}
 use Rattle.sweeps.proofs.Lanes.{lanesIn}
-use Rattle.sweeps.proofs.Walk.{Walking, begins, no-more, one-more, stops, stray-low, strays, ends, moves, take-low, run-gives, table-gives}
+use Rattle.sweeps.proofs.Walk.{Walking, begins, no-more, one-more, stops, strays, ends, moves, take-low, run-gives, table-gives}
 use Rattle.sweeps.specs.declared.Head.{Head}
 use Rattle.sweeps.proofs.sweep.Statement.{statement}
 use Rattle.sweeps.proofs.sweep.Tie as tie
@@ -46,20 +46,14 @@ enum-known-finding c = search needs
 returns : tie.Need-returns Inv-loop μ-loop
 returns c = stops _ _ _ _ _ _ _ _ _ _ _ _ _ _ _ (c .before .before .before .before .loop .inv) _ (c .before .before .before .decide .ensures) _ (c .before .finding .given .1)
 
-enum-known-t : tie.Need-enum-known-t Inv-loop μ-loop
-enum-known-t c = search needs
-
-mul-h : tie.Need-mul-h Inv-loop μ-loop
-mul-h c = omega (arith, stray-low _ _ _ _ _ _ _ _ _ _ _ _ _ _ _ (c .before .before .before .before .loop .inv) _ (c .before .before .before .decide .ensures) _ (c .before .t .given .1))
-
-array-copy-out-h : tie.Need-array-copy-out-h Inv-loop μ-loop
-array-copy-out-h c = stray-low _ _ _ _ _ _ _ _ _ _ _ _ _ _ _ (c .before .before .before .before .loop .inv) _ (c .before .before .before .decide .ensures) _ (c .before .t .given .1)
+enum-known-astray : tie.Need-enum-known-astray Inv-loop μ-loop
+enum-known-astray c = search needs
 
 stray-requires : tie.Need-stray-requires Inv-loop μ-loop
 stray-requires c κs = search needs
 
 returns-2 : tie.Need-returns-2 Inv-loop μ-loop
-returns-2 c = c .stray .ensures ∙ ap asked (strays _ _ _ _ _ _ _ _ _ _ _ _ _ _ _ (c .before .before .before .before .before .before .loop .inv) _ (c .before .before .before .before .before .decide .ensures) _ (c .before .before .before .t .given .1) _)
+returns-2 c = c .stray .ensures ∙ ap asked (strays _ _ _ _ _ _ _ _ _ _ _ _ _ _ _ (c .before .before .before .before .before .loop .inv) _ (c .before .before .before .before .decide .ensures) _ (c .before .before .astray .given .1))
 
 enum-told : tie.Need-enum-told Inv-loop μ-loop
 enum-told c = search needs
@@ -85,74 +79,74 @@ loop-less c = let o = one-more (c .before .before .before .before .before .befor
 loop-again : tie.Need-loop-again Inv-loop μ-loop
 loop-again c = moves _ _ _ _ _ _ _ _ _ _ _ _ _ _ _ (c .before .before .before .before .before .before .before .loop .inv) _ (c .before .before .before .before .before .before .decide .ensures) (c .before .before .before .before .enum-told .given .1) _ _ _ (one-more (c .before .before .before .before .before .before .before .before .before .before .before .before .before .before .args .file .now) (boxes (c .before .before .before .before .before .before .before .before .before .before .before .before .before .before .args .starts .now) (c .before .before .before .before .before .before .before .before .before .before .before .before .before .before .args .sizes .now) (c .before .before .before .before .before .before .before .before .before .before .before .before .before .before .args .kinds .now) (c .before .before .before .before .before .before .before .before .before .before .before .before .before .before .args .parents .now) (c .before .before .before .before .before .before .before .before .before .before .before .before .before .before .args .placed .now)) (c .before .before .before .before .before .before .before .before .before .before .before .before .before .before .args .n) (c .before .before .before .before .before .before .before .loop .row) _ (c .before .before .before .next .ensures) _ _ _ (c .before .from .given .1))
 
-enum-known-t-2 : tie.Need-enum-known-t-2 Inv-loop μ-loop
-enum-known-t-2 c = search needs
+enum-known-t : tie.Need-enum-known-t Inv-loop μ-loop
+enum-known-t c = search needs
 
 mul-number : tie.Need-mul-number Inv-loop μ-loop
-mul-number c = omega (arith, take-low _ _ _ _ _ _ _ _ _ _ _ _ _ _ _ (c .before .before .before .before .loop .inv) _ (c .before .before .before .decide .ensures) _ _ _ (c .before .t2 .given .1))
+mul-number c = omega (arith, take-low _ _ _ _ _ _ _ _ _ _ _ _ _ _ _ (c .before .before .before .before .loop .inv) _ (c .before .before .before .decide .ensures) _ _ _ (c .before .t .given .1))
 
 array-read-number : tie.Need-array-read-number Inv-loop μ-loop
-array-read-number c = take-low _ _ _ _ _ _ _ _ _ _ _ _ _ _ _ (c .before .before .before .before .loop .inv) _ (c .before .before .before .decide .ensures) _ _ _ (c .before .t2 .given .1)
+array-read-number c = take-low _ _ _ _ _ _ _ _ _ _ _ _ _ _ _ (c .before .before .before .before .loop .inv) _ (c .before .before .before .decide .ensures) _ _ _ (c .before .t .given .1)
 
 mul-lane : tie.Need-mul-lane Inv-loop μ-loop
-mul-lane c = omega (arith, take-low _ _ _ _ _ _ _ _ _ _ _ _ _ _ _ (c .before .before .before .before .before .loop .inv) _ (c .before .before .before .before .decide .ensures) _ _ _ (c .before .before .t2 .given .1))
+mul-lane c = omega (arith, take-low _ _ _ _ _ _ _ _ _ _ _ _ _ _ _ (c .before .before .before .before .before .loop .inv) _ (c .before .before .before .before .decide .ensures) _ _ _ (c .before .before .t .given .1))
 
 array-copy-out-lane : tie.Need-array-copy-out-lane Inv-loop μ-loop
-array-copy-out-lane c = take-low _ _ _ _ _ _ _ _ _ _ _ _ _ _ _ (c .before .before .before .before .before .loop .inv) _ (c .before .before .before .before .decide .ensures) _ _ _ (c .before .before .t2 .given .1)
+array-copy-out-lane c = take-low _ _ _ _ _ _ _ _ _ _ _ _ _ _ _ (c .before .before .before .before .before .loop .inv) _ (c .before .before .before .before .decide .ensures) _ _ _ (c .before .before .t .given .1)
 
 by-runs-requires : tie.Need-by-runs-requires Inv-loop μ-loop
 by-runs-requires c κs = search needs
 
 mul-heads : tie.Need-mul-heads Inv-loop μ-loop
-mul-heads c = omega (arith, take-low _ _ _ _ _ _ _ _ _ _ _ _ _ _ _ (c .before .before .before .before .before .before .before .before .before .loop .inv) _ (c .before .before .before .before .before .before .before .before .decide .ensures) _ _ _ (c .before .before .before .before .before .before .t2 .given .1))
+mul-heads c = omega (arith, take-low _ _ _ _ _ _ _ _ _ _ _ _ _ _ _ (c .before .before .before .before .before .before .before .before .before .loop .inv) _ (c .before .before .before .before .before .before .before .before .decide .ensures) _ _ _ (c .before .before .before .before .before .before .t .given .1))
 
 array-set-from-heads : tie.Need-array-set-from-heads Inv-loop μ-loop
-array-set-from-heads c = take-low _ _ _ _ _ _ _ _ _ _ _ _ _ _ _ (c .before .before .before .before .before .before .before .before .before .loop .inv) _ (c .before .before .before .before .before .before .before .before .decide .ensures) _ _ _ (c .before .before .before .before .before .before .t2 .given .1)
+array-set-from-heads c = take-low _ _ _ _ _ _ _ _ _ _ _ _ _ _ _ (c .before .before .before .before .before .before .before .before .before .loop .inv) _ (c .before .before .before .before .before .before .before .before .decide .ensures) _ _ _ (c .before .before .before .before .before .before .t .given .1)
 
 mul-by-run : tie.Need-mul-by-run Inv-loop μ-loop
-mul-by-run c = omega (arith, take-low _ _ _ _ _ _ _ _ _ _ _ _ _ _ _ (c .before .before .before .before .before .before .before .before .before .loop .inv) _ (c .before .before .before .before .before .before .before .before .decide .ensures) _ _ _ (c .before .before .before .before .before .before .t2 .given .1))
+mul-by-run c = omega (arith, take-low _ _ _ _ _ _ _ _ _ _ _ _ _ _ _ (c .before .before .before .before .before .before .before .before .before .loop .inv) _ (c .before .before .before .before .before .before .before .before .decide .ensures) _ _ _ (c .before .before .before .before .before .before .t .given .1))
 
 array-set-from-by-run : tie.Need-array-set-from-by-run Inv-loop μ-loop
-array-set-from-by-run c = take-low _ _ _ _ _ _ _ _ _ _ _ _ _ _ _ (c .before .before .before .before .before .before .before .before .before .loop .inv) _ (c .before .before .before .before .before .before .before .before .decide .ensures) _ _ _ (c .before .before .before .before .before .before .t2 .given .1)
+array-set-from-by-run c = take-low _ _ _ _ _ _ _ _ _ _ _ _ _ _ _ (c .before .before .before .before .before .before .before .before .before .loop .inv) _ (c .before .before .before .before .before .before .before .before .decide .ensures) _ _ _ (c .before .before .before .before .before .before .t .given .1)
 
 loop-less-2 : tie.Need-loop-less-2 Inv-loop μ-loop
-loop-less-2 c = omega (arith, (run-gives _ _ _ _ _ _ _ _ _ _ _ _ _ _ _ (c .before .before .before .before .before .before .before .before .before .loop .inv) _ (c .before .before .before .before .before .before .before .before .decide .ensures) _ _ _ (c .before .before .before .before .before .before .t2 .given .1) _ _ _ (c .before .before .before .before .if1 .taken) _ (c .before .before .by-runs .ensures)) .1)
+loop-less-2 c = omega (arith, (run-gives _ _ _ _ _ _ _ _ _ _ _ _ _ _ _ (c .before .before .before .before .before .before .before .before .before .loop .inv) _ (c .before .before .before .before .before .before .before .before .decide .ensures) _ _ _ (c .before .before .before .before .before .before .t .given .1) _ _ _ (c .before .before .before .before .if1 .taken) _ (c .before .before .by-runs .ensures)) .1)
 
 loop-again-2 : tie.Need-loop-again-2 Inv-loop μ-loop
-loop-again-2 c = (run-gives _ _ _ _ _ _ _ _ _ _ _ _ _ _ _ (c .before .before .before .before .before .before .before .before .before .loop .inv) _ (c .before .before .before .before .before .before .before .before .decide .ensures) _ _ _ (c .before .before .before .before .before .before .t2 .given .1) _ _ _ (c .before .before .before .before .if1 .taken) _ (c .before .before .by-runs .ensures)) .0
+loop-again-2 c = (run-gives _ _ _ _ _ _ _ _ _ _ _ _ _ _ _ (c .before .before .before .before .before .before .before .before .before .loop .inv) _ (c .before .before .before .before .before .before .before .before .decide .ensures) _ _ _ (c .before .before .before .before .before .before .t .given .1) _ _ _ (c .before .before .before .before .if1 .taken) _ (c .before .before .by-runs .ensures)) .0
 
 mul-track : tie.Need-mul-track Inv-loop μ-loop
-mul-track c = omega (arith, take-low _ _ _ _ _ _ _ _ _ _ _ _ _ _ _ (c .before .before .before .before .before .loop .inv) _ (c .before .before .before .before .decide .ensures) _ _ _ (c .before .before .t2 .given .1))
+mul-track c = omega (arith, take-low _ _ _ _ _ _ _ _ _ _ _ _ _ _ _ (c .before .before .before .before .before .loop .inv) _ (c .before .before .before .before .decide .ensures) _ _ _ (c .before .before .t .given .1))
 
 array-copy-out-track : tie.Need-array-copy-out-track Inv-loop μ-loop
-array-copy-out-track c = take-low _ _ _ _ _ _ _ _ _ _ _ _ _ _ _ (c .before .before .before .before .before .loop .inv) _ (c .before .before .before .before .decide .ensures) _ _ _ (c .before .before .t2 .given .1)
+array-copy-out-track c = take-low _ _ _ _ _ _ _ _ _ _ _ _ _ _ _ (c .before .before .before .before .before .loop .inv) _ (c .before .before .before .before .decide .ensures) _ _ _ (c .before .before .t .given .1)
 
 mul-lane-2 : tie.Need-mul-lane-2 Inv-loop μ-loop
-mul-lane-2 c = omega (arith, take-low _ _ _ _ _ _ _ _ _ _ _ _ _ _ _ (c .before .before .before .before .before .before .loop .inv) _ (c .before .before .before .before .before .decide .ensures) _ _ _ (c .before .before .before .t2 .given .1))
+mul-lane-2 c = omega (arith, take-low _ _ _ _ _ _ _ _ _ _ _ _ _ _ _ (c .before .before .before .before .before .before .loop .inv) _ (c .before .before .before .before .before .decide .ensures) _ _ _ (c .before .before .before .t .given .1))
 
 array-copy-out-lane-2 : tie.Need-array-copy-out-lane-2 Inv-loop μ-loop
-array-copy-out-lane-2 c = take-low _ _ _ _ _ _ _ _ _ _ _ _ _ _ _ (c .before .before .before .before .before .before .loop .inv) _ (c .before .before .before .before .before .decide .ensures) _ _ _ (c .before .before .before .t2 .given .1)
+array-copy-out-lane-2 c = take-low _ _ _ _ _ _ _ _ _ _ _ _ _ _ _ (c .before .before .before .before .before .before .loop .inv) _ (c .before .before .before .before .before .decide .ensures) _ _ _ (c .before .before .before .t .given .1)
 
 by-tables-requires : tie.Need-by-tables-requires Inv-loop μ-loop
 by-tables-requires c κs = search needs
 
 mul-heads-2 : tie.Need-mul-heads-2 Inv-loop μ-loop
-mul-heads-2 c = omega (arith, take-low _ _ _ _ _ _ _ _ _ _ _ _ _ _ _ (c .before .before .before .before .before .before .before .before .before .before .loop .inv) _ (c .before .before .before .before .before .before .before .before .before .decide .ensures) _ _ _ (c .before .before .before .before .before .before .before .t2 .given .1))
+mul-heads-2 c = omega (arith, take-low _ _ _ _ _ _ _ _ _ _ _ _ _ _ _ (c .before .before .before .before .before .before .before .before .before .before .loop .inv) _ (c .before .before .before .before .before .before .before .before .before .decide .ensures) _ _ _ (c .before .before .before .before .before .before .before .t .given .1))
 
 array-set-from-heads-2 : tie.Need-array-set-from-heads-2 Inv-loop μ-loop
-array-set-from-heads-2 c = take-low _ _ _ _ _ _ _ _ _ _ _ _ _ _ _ (c .before .before .before .before .before .before .before .before .before .before .loop .inv) _ (c .before .before .before .before .before .before .before .before .before .decide .ensures) _ _ _ (c .before .before .before .before .before .before .before .t2 .given .1)
+array-set-from-heads-2 c = take-low _ _ _ _ _ _ _ _ _ _ _ _ _ _ _ (c .before .before .before .before .before .before .before .before .before .before .loop .inv) _ (c .before .before .before .before .before .before .before .before .before .decide .ensures) _ _ _ (c .before .before .before .before .before .before .before .t .given .1)
 
 mul-by-table : tie.Need-mul-by-table Inv-loop μ-loop
-mul-by-table c = omega (arith, take-low _ _ _ _ _ _ _ _ _ _ _ _ _ _ _ (c .before .before .before .before .before .before .before .before .before .before .loop .inv) _ (c .before .before .before .before .before .before .before .before .before .decide .ensures) _ _ _ (c .before .before .before .before .before .before .before .t2 .given .1))
+mul-by-table c = omega (arith, take-low _ _ _ _ _ _ _ _ _ _ _ _ _ _ _ (c .before .before .before .before .before .before .before .before .before .before .loop .inv) _ (c .before .before .before .before .before .before .before .before .before .decide .ensures) _ _ _ (c .before .before .before .before .before .before .before .t .given .1))
 
 array-set-from-by-table : tie.Need-array-set-from-by-table Inv-loop μ-loop
-array-set-from-by-table c = take-low _ _ _ _ _ _ _ _ _ _ _ _ _ _ _ (c .before .before .before .before .before .before .before .before .before .before .loop .inv) _ (c .before .before .before .before .before .before .before .before .before .decide .ensures) _ _ _ (c .before .before .before .before .before .before .before .t2 .given .1)
+array-set-from-by-table c = take-low _ _ _ _ _ _ _ _ _ _ _ _ _ _ _ (c .before .before .before .before .before .before .before .before .before .before .loop .inv) _ (c .before .before .before .before .before .before .before .before .before .decide .ensures) _ _ _ (c .before .before .before .before .before .before .before .t .given .1)
 
 loop-less-3 : tie.Need-loop-less-3 Inv-loop μ-loop
-loop-less-3 c = omega (arith, (table-gives _ _ _ _ _ _ _ _ _ _ _ _ _ _ _ (c .before .before .before .before .before .before .before .before .before .before .loop .inv) _ (c .before .before .before .before .before .before .before .before .before .decide .ensures) _ _ _ (c .before .before .before .before .before .before .before .t2 .given .1) _ _ _ _ (c .before .before .before .before .before .if1 .left) _ (c .before .before .by-tables .ensures)) .1)
+loop-less-3 c = omega (arith, (table-gives _ _ _ _ _ _ _ _ _ _ _ _ _ _ _ (c .before .before .before .before .before .before .before .before .before .before .loop .inv) _ (c .before .before .before .before .before .before .before .before .before .decide .ensures) _ _ _ (c .before .before .before .before .before .before .before .t .given .1) _ _ _ _ (c .before .before .before .before .before .if1 .left) _ (c .before .before .by-tables .ensures)) .1)
 
 loop-again-3 : tie.Need-loop-again-3 Inv-loop μ-loop
-loop-again-3 c = (table-gives _ _ _ _ _ _ _ _ _ _ _ _ _ _ _ (c .before .before .before .before .before .before .before .before .before .before .loop .inv) _ (c .before .before .before .before .before .before .before .before .before .decide .ensures) _ _ _ (c .before .before .before .before .before .before .before .t2 .given .1) _ _ _ _ (c .before .before .before .before .before .if1 .left) _ (c .before .before .by-tables .ensures)) .0
+loop-again-3 c = (table-gives _ _ _ _ _ _ _ _ _ _ _ _ _ _ _ (c .before .before .before .before .before .before .before .before .before .before .loop .inv) _ (c .before .before .before .before .before .before .before .before .before .decide .ensures) _ _ _ (c .before .before .before .before .before .before .before .t .given .1) _ _ _ _ (c .before .before .before .before .before .if1 .left) _ (c .before .before .by-tables .ensures)) .0
 
 pub sweep-spec : {M : Type 1} → statement M
 sweep-spec =
@@ -168,9 +162,7 @@ sweep-spec =
     decide-requires
     enum-known-finding
     returns
-    enum-known-t
-    mul-h
-    array-copy-out-h
+    enum-known-astray
     stray-requires
     returns-2
     enum-told
@@ -181,7 +173,7 @@ sweep-spec =
     enum-known-from
     loop-less
     loop-again
-    enum-known-t-2
+    enum-known-t
     mul-number
     array-read-number
     mul-lane
