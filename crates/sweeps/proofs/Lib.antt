@@ -1,0 +1,8 @@
+pub mod Laws
+mod Looks
+mod Bridge
+mod Turns
+mod Lanes
+mod Walk
+mod Vectors
+mod Unique

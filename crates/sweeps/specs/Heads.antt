@@ -1,0 +1,107 @@
+-- What the private functions of the sweep promise: the tracks' next samples, what is seen of them at a position, and what
+-- a turn does. No public promise rests on it. Assumes nothing.
+use Prim.Native.Nat.{ℕ, zero, suc, _+_, _-_, _≤_, _<_}
+use mathlib.Core.Path.{_≡_}
+use mathlib.Core.List.{List, [], _∷_}
+use mathlib.Core.Bool.{Bool, true, false}
+use lib.ListN.{length, getD, set}
+use lib.Dec.{ltb, eqb}
+use lib.IntN.{pos}
+use Rattle.numbers.specs.Field.{when}
+use Rattle.samples.specs.declared.Sample.{Sample}
+use Rattle.verdicts.specs.declared.Finding.{Finding}
+use Rattle.verdicts.specs.Findings.{Track, track, samplesOf, Span, Answer, passes, found}
+use Rattle.verdicts.specs.Sweep.{inSome, sweepFrom}
+use Rattle.payloads.specs.Payloads.{span}
+use Rattle.sweeps.specs.declared.Head.{Head}
+use Rattle.sweeps.specs.declared.Seen.{Seen}
+use Rattle.sweeps.specs.declared.Turn.{Turn}
+use Rattle.sweeps.specs.declared.Turn.the-variants.{Skip, Take, Stray, Stop}
+
+-- HEADS
+
+abbrev pub ahead : Bool → ℕ → ℕ → ℕ → ℕ → Head
+ahead b t n o z = record { live = b; track = t; number = n; offset = o; size = z }
+
+-- finding k of a track's next sample
+abbrev pub claimed : ℕ → Head → Finding
+claimed k h = record { number = k; track = h .track; sample = h .number; position = h .offset; gap = pos 0 }
+
+abbrev pub strayOf : List Span → Head → Answer
+strayOf all h = found (when (inSome (h .offset) all) (claimed 5 h) (claimed 4 h))
+
+abbrev pub leftIn : List Span → List Head → Answer
+leftIn all [] = passes
+leftIn all (h ∷ hs) = when (h .live) (strayOf all h) (leftIn all hs)
+
+-- h is the first of the samples y, and x the others
+abbrev pub Shown : Head → List Sample → List Sample → Type 0
+Shown h x [] = (h .live ≡ false) × (x ≡ [])
+Shown h x (s ∷ y) = (h .live ≡ true) × (s .number ≡ h .number) × (s .offset ≡ h .offset) × (s .size ≡ h .size) × (x ≡ y)
+
+-- the same of a track: h is its next sample, and the first track has the others
+abbrev pub Known : Head → Track → Track → Type 0
+Known h (track i a x) (track n b y) = (h .track ≡ n) × (i ≡ n) × (a ≡ b) × Shown h x y
+
+-- of the tracks ts the first k are filled: their next samples are in the heads, and xs has what their lanes have left. Of
+-- the others all is left in the lanes. Behind the last track no head is live
+abbrev pub State : ℕ → List Head → List Track → List Track → Type 0
+State k [] xs [] = Unit {0}
+State k [] xs (t ∷ ts) = ⊥
+State k (h ∷ hs) xs [] = (h .live ≡ false) × State k hs xs []
+State k (h ∷ hs) [] (t ∷ ts) = ⊥
+State zero (h ∷ hs) (x ∷ xs) (t ∷ ts) = (h .live ≡ false) × (x ≡ t) × State zero hs xs ts
+State (suc k) (h ∷ hs) (x ∷ xs) (t ∷ ts) = Known h x t × State k hs xs ts
+
+-- how many samples the heads and the lanes have
+abbrev pub one : Bool → ℕ
+one true = 1
+one false = 0
+
+abbrev pub many : List Head → List Track → ℕ
+many [] xs = 0
+many (h ∷ hs) [] = 0
+many (h ∷ hs) (x ∷ xs) = one (h .live) + length (samplesOf x) + many hs xs
+
+-- WHAT IS SEEN
+
+abbrev pub nothing : Seen
+nothing = record { below = 4; first = 4; second = 4 }
+
+unfoldable pub seeAt : Seen → ℕ → ℕ → ℕ → Seen
+seeAt l t p o =
+    when (ltb o p) (when (eqb (l .below) 4) (record { below = t; first = l .first; second = l .second }) l)
+    (when (eqb o p)
+    (when (eqb (l .first) 4) (record { below = l .below; first = t; second = l .second })
+    (when (eqb (l .second) 4) (record { below = l .below; first = l .first; second = t }) l))
+    l)
+
+abbrev pub lookAt : Seen → ℕ → ℕ → List Head → Seen
+lookAt l t p [] = l
+lookAt l t p (h ∷ hs) = lookAt (when (h .live) (seeAt l t p (h .offset)) l) (suc t) p hs
+
+-- TURNS
+
+-- how much is to be done
+abbrev pub weight : ℕ → ℕ → List Head → List Track → ℕ
+weight n k hs xs = many hs xs + (n - k)
+
+-- the sample of track t is taken, up to q, and k′ tracks are filled as soon as the lane of t has given the next
+pub record Takes (all : List Span) (c : Span) (m : List Span) (k : ℕ) (hs : List Head) (xs ts : List Track) (t q k′ : ℕ) : Type 0 where
+  pub low : t < 4
+  pub stays : q ≤ c .to
+  pub after : List Track
+  pub as-many : length after ≡ length ts
+  pub goes : sweepFrom all (c ∷ m) ts ≡ sweepFrom all (span q (c .to) ∷ m) after
+  pub refilled : (d : Track) (h : Head) (x : Track) → Known h x (getD xs t d) → State k′ (set hs t h) (set xs t x) after
+  pub less : (d : Track) (h : Head) (x : Track) → Known h x (getD xs t d) → weight (length ts) k′ (set hs t h) (set xs t x) < weight (length ts) k hs xs
+
+abbrev pub TurnBy : List Span → Span → List Span → ℕ → List Head → List Track → List Track → Turn → Type 0
+TurnBy all c m k hs xs ts Skip = (length ts ≤ k) × (c .from ≡ c .to)
+TurnBy all c m k hs xs ts (Take t q k′) = Takes all c m k hs xs ts t q k′
+TurnBy all c m k hs xs ts (Stray h) = sweepFrom all (c ∷ m) ts ≡ strayOf all h
+TurnBy all c m k hs xs ts (Stop f) = sweepFrom all (c ∷ m) ts ≡ found f
+
+-- what a turn's answer says of any n tracks that have these heads, whatever payloads follow
+abbrev pub TurnIs : List Head → ℕ → ℕ → ℕ → ℕ → Turn → Type 0
+TurnIs hs k n p e r = (all m : List Span) (xs ts : List Track) → length ts ≡ n → State k hs xs ts → TurnBy all (span p e) m k hs xs ts r
