@@ -8,7 +8,8 @@ use Rattle.runs.specs.declared.Run.{Run}
 use Rattle.verdicts.specs.Findings.{Track, track}
 use Rattle.verdicts.specs.Fragments.{Moof, Clock, free, clocksOf, follow, followFrom}
 use Rattle.follows.specs.Follows.{asTrafs, endBefore, moofsIn, trackNumbers, clocks, gapsFit, answer, followedOf}
-use Rattle.follows.specs.Fragments.{Fragment, allRuns, rowsBehind, moofsOf}
+use Rattle.moofs.specs.Moofs.{Fragment, allRuns, moofsFrom}
+use Rattle.follows.specs.Fragments.{moofsOf}
 
 -- THE ROWS OF FRAGMENTS
 
@@ -18,21 +19,21 @@ module _ (before own : List Run) where
   runs-back after =
       ap (drop (length before)) (take-append-add before (own ++ after) (length own) ∙ ap (λ (l : List Run). before ++ l) (take-append-seam own after)) ∙ drop-append-seam before own
 
-  end-of : (xs : List Fragment) → endBefore (before ++ (own ++ allRuns xs)) (rowsBehind (length before + length own) xs) ≡ length before + length own
+  end-of : (xs : List Fragment) → endBefore (before ++ (own ++ allRuns xs)) (moofsFrom (length before + length own) xs) ≡ length before + length own
   end-of [] = ap (λ (l : List Run). length (before ++ l)) (append-nil own) ∙ length-append before own
   end-of (x ∷ xs) = refl
 
-moofs-behind : (f : List ℕ) (xs : List Fragment) (before : List Run) → moofsIn f (before ++ allRuns xs) (rowsBehind (length before) xs) ≡ moofsOf f xs
+moofs-behind : (f : List ℕ) (xs : List Fragment) (before : List Run) → moofsIn f (before ++ allRuns xs) (moofsFrom (length before) xs) ≡ moofsOf f xs
 moofs-behind f [] before = refl
 moofs-behind f (x ∷ xs) before =
     let all : List Run = before ++ (x .runs ++ allRuns xs) in
     ap₂ (λ (l : List Run) (ms : List Moof). record { start = x .start; number = x .number; trafs = asTrafs f l } ∷ ms)
     (ap (λ n. drop (length before) (take n all)) (end-of before (x .runs) xs) ∙ runs-back before (x .runs) (allRuns xs))
-    (ap₂ (λ (l : List Run) (n : ℕ). moofsIn f l (rowsBehind n xs)) (sym (append-assoc before (x .runs) (allRuns xs))) (sym (length-append before (x .runs)))
+    (ap₂ (λ (l : List Run) (n : ℕ). moofsIn f l (moofsFrom n xs)) (sym (append-assoc before (x .runs) (allRuns xs))) (sym (length-append before (x .runs)))
     ∙ moofs-behind f xs (before ++ x .runs))
 
 -- the moofs of fragments, by the rows in which they are kept
-pub moofs-of-rows : (f : List ℕ) (xs : List Fragment) → moofsIn f (allRuns xs) (rowsBehind 0 xs) ≡ moofsOf f xs
+pub moofs-of-rows : (f : List ℕ) (xs : List Fragment) → moofsIn f (allRuns xs) (moofsFrom 0 xs) ≡ moofsOf f xs
 moofs-of-rows f xs = moofs-behind f xs []
 
 -- THE CLOCKS OF THE AUDIT
@@ -47,7 +48,7 @@ follow-of-tracks ts ms = ap (λ (cs : List Clock). followFrom free cs ms) (clock
 
 -- what is answered of fragments that are kept as rows
 pub followed-of-fragments : (f : List ℕ) (xs : List Fragment) (ts : List Track)
-    → followedOf f (allRuns xs) (rowsBehind 0 xs) (trackNumbers ts) ≡ answer (gapsFit (trackNumbers ts) (moofsOf f xs)) (follow ts (moofsOf f xs))
+    → followedOf f (allRuns xs) (moofsFrom 0 xs) (trackNumbers ts) ≡ answer (gapsFit (trackNumbers ts) (moofsOf f xs)) (follow ts (moofsOf f xs))
 unfolding followedOf
 followed-of-fragments f xs ts =
     ap (λ (ms : List Moof). answer (gapsFit (trackNumbers ts) ms) (followFrom free (clocks (trackNumbers ts)) ms)) (moofs-of-rows f xs)

@@ -13,7 +13,7 @@ use Rattle.gaps.specs.Gaps.{gapOf}
 use Rattle.verdicts.specs.Findings.{track, F7, F8}
 use Rattle.verdicts.specs.Fragments.{Moof}
 use Rattle.follows.specs.Follows.{numbersIn, moofsIn, trackNumbers, gapsFit, answer, followedOf}
-use Rattle.follows.specs.Fragments.{Fragment, allRuns, rowsBehind}
+use Rattle.moofs.specs.Moofs.{Fragment, allRuns, moofsFrom}
 use Rattle.follows.specs.declared.Followed.{Followed}
 use Rattle.follows.specs.declared.Followed.the-variants.{Over, Passes, Found}
 
@@ -25,7 +25,7 @@ abbrev moof : ℕ → ℕ → List Run → Fragment
 moof at n l = record { start = at; number = n; runs = l }
 
 abbrev followed : List Fragment → Followed
-followed xs = followedOf [] (allRuns xs) (rowsBehind 0 xs) (7 ∷ 3 ∷ [])
+followed xs = followedOf [] (allRuns xs) (moofsFrom 0 xs) (7 ∷ 3 ∷ [])
 
 -- CASE 7
 

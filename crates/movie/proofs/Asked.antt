@@ -1,8 +1,6 @@
 -- What an answer says that the code tells. Assumes nothing.
-use Prim.Native.Nat.{ℕ}
 use mathlib.Core.Path.{_≡_, refl, sym, ap, _∙_}
 use mathlib.Core.List.{List, _∷_}
-use native.Mathlib.Omega.{arith}
 use Rattle.verdicts.specs.Findings.{Answer, passes, found, firstFound, asked}
 use Rattle.verdicts.specs.declared.Finding.{Finding}
 use Rattle.verdicts.specs.declared.Asked.{Asked}

@@ -1,3 +1,7 @@
 mod Rows
 mod Asked
 mod Steps
+mod One
+mod Passing
+mod Judging
+mod Small

@@ -8,7 +8,7 @@ use lib.ListN.{length, take, drop, getD}
 use lib.Dec.{ltb}
 use borrow.Author.Tests.{lt-ltb, le-ltb}
 use Rattle.numbers.specs.Field.{when}
-use Rattle.numbers.proofs.Chain.{by-true, by-false, is-lt, not-lt}
+use Rattle.numbers.proofs.Chain.{is-lt, not-lt}
 use Rattle.tables.specs.declared.Track.{Track}
 use Rattle.agree.specs.Agree.{agreeOf}
 use Rattle.verdicts.specs.Findings.{Answer, passes, found, F1, asked, firstFound, Span}
@@ -16,9 +16,8 @@ use Rattle.verdicts.specs.Sweep.{bytes}
 use Rattle.verdicts.specs.declared.Finding.{Finding}
 use Rattle.verdicts.specs.declared.Asked.{Asked}
 use Rattle.verdicts.specs.declared.Asked.the-variants as told
-use Rattle.movie.specs.Movie.{agreement, agreed, hasSamples}
-use Rattle.movie.specs.Inside.{mediaOf}
-use Rattle.movie.specs.declared.Sum.{Sum}
+use Rattle.movie.specs.Movie.{hasSamples}
+use Rattle.movie.specs.Inside.{mediaOf, agreement, agreed}
 use Rattle.movie.specs.declared.Sum.the-variants.{Is, Over}
 use Rattle.movie.proofs.Rows.{at-row, no-row}
 use Rattle.movie.proofs.Asked.{first-stops, first-goes}

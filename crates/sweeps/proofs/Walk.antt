@@ -1,14 +1,11 @@
 -- The walk: what holds at every turn of it, and what each turn does. Assumes nothing.
-use Prim.Native.Nat.{ℕ, zero, suc, _+_, _-_, _≤_, _<_, min}
+use Prim.Native.Nat.{ℕ, _-_, _≤_, _<_, min}
 use mathlib.Core.Path.{_≡_, refl, sym, ap, _∙_, subst}
 use mathlib.Core.List.{List, [], _∷_}
 use mathlib.Core.Bool.{Bool, true, false}
 use native.Mathlib.Omega.{arith}
 use lib.ListN.{getD, length, set, take, replicate, length-set}
-use Rattle.numbers.specs.Field.{when}
 use Rattle.numbers.proofs.Chain.{is-eq}
-use Rattle.places.specs.Visit.{boxLimit}
-use Rattle.places.specs.Kinds.{mdat}
 use Rattle.kin.specs.Kin.{Boxes, stands}
 use Rattle.tables.specs.declared.Track as tables
 use Rattle.tables.specs.declared.Optional.the-variants.{Absent}
@@ -22,10 +19,10 @@ use Rattle.verdicts.specs.declared.Asked.the-variants.{Found}
 use Rattle.verdicts.specs.Findings.{Track, track, Span, asked}
 use Rattle.verdicts.specs.Sweep.{sweepFrom}
 use Rattle.verdicts.proofs.Steps.{sweep-goes}
-use Rattle.payloads.specs.Payloads.{toOf, fromOf, span, payloadsFrom, nextIn, nextOf}
+use Rattle.payloads.specs.Payloads.{span, payloadsFrom, nextOf}
 use Rattle.payloads.specs.declared.Payload.{Payload}
 use Rattle.payloads.specs.declared.Payload.the-variants.{At, End}
-use Rattle.payloads.proofs.Laws.{follow, next-is-first}
+use Rattle.payloads.proofs.Laws.{told-end, told-more, told-forward}
 use Rattle.sweeps.specs.declared.Head.{Head}
 use Rattle.sweeps.specs.declared.Turn.{Turn}
 use Rattle.sweeps.specs.declared.Turn.the-variants.{Skip, Take, Stray, Stop}
@@ -36,29 +33,12 @@ use Rattle.sweeps.proofs.Lanes.{laneOf, lanesIn, laneAt, lane-at, set-t
 
 -- THE NEXT PAYLOAD
 
--- a payload does not end before it begins
-abbrev Forward : Payload → Type 0
-Forward (At a b j) = a ≤ b
-Forward End = Unit {0}
-
-forward : (f : List ℕ) (t : Boxes) (k i : ℕ) → Forward (nextIn f t k i)
-unfolding nextIn when
-forward f t zero i = tt
-forward f t (suc k) i = cases (stands t mdat i) (forward f t k (i + 1))
-  where
-    cases : (b : Bool) → Forward (nextIn f t k (i + 1)) → Forward (when b (At (fromOf f t i) (toOf f t i) (i + 1)) (nextIn f t k (i + 1)))
-    cases true ih = omega arith
-    cases false ih = ih
-
 module _ (f : List ℕ) (t : Boxes) (n i : ℕ) (r : Payload) (e : r ≡ nextOf f t n i) where
   pub no-more : r ≡ End → payloadsFrom f t n i ≡ []
-  no-more q = sym (next-is-first f t n i) ∙ ap (follow f t n) (sym e ∙ q)
+  no-more q = sym (told-end f t n i r e q)
 
   pub one-more : (a b j : ℕ) → r ≡ At a b j → (payloadsFrom f t n i ≡ span a b ∷ payloadsFrom f t n j) × (a ≤ b)
-  one-more a b j q = (
-    sym (next-is-first f t n i) ∙ ap (follow f t n) (sym e ∙ q),
-    subst Forward (sym e ∙ q) (forward f t (min n boxLimit - i) i),
-  )
+  one-more a b j q = (sym (told-more f t n i r e a b j q), told-forward f t n i r e a b j q)
 
 -- AT EVERY TURN
 

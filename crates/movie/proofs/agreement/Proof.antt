@@ -2,19 +2,13 @@ use Rattle.movie.proofs.Steps.{agrees, differs}
 use borrow.Author.Needs.{needs}
 use Rattle.movie.proofs.agreement.Statement.{statement}
 use Rattle.movie.proofs.agreement.Tie as tie
-use Rattle.movie.proofs.agreement.Reads as reads
-use Rattle.movie.proofs.agreement.Lts as lts
-use Rattle.agree.proofs.tables.Reads as tables-reads
 
--- src/lib.rt:69:8
 tables-requires : tie.Need-tables-requires
 tables-requires c κs = search needs
 
--- src/lib.rt:70:9
 returns : tie.Need-returns
 returns c = agrees (c .before .before .before .args .file .now) (c .before .before .before .args .number) (c .before .before .before .args .track) _ (c .before .tables .ensures) (c .if1 .taken)
 
--- src/lib.rt:66:1
 returns-2 : tie.Need-returns-2
 returns-2 c = differs (c .before .before .before .args .file .now) (c .before .before .before .args .number) (c .before .before .before .args .track) _ (c .before .tables .ensures) (c .if1 .left)
 

@@ -1,20 +1,14 @@
 use Rattle.movie.proofs.Steps.{some-none, some-here, some-later}
-use mathlib.Core.Path.{_∙_, sym, refl, ap}
+use mathlib.Core.Path.{_∙_, refl}
 use native.Mathlib.Omega.{arith}
 use Prim.Native.Nat.{_<_}
 use mathlib.Core.Path.{_≡_}
-use Prim.Native.Nat.{_+_, _-_}
+use Prim.Native.Nat.{_-_}
 use lib.ListN.{length}
-use Rattle.kin.specs.Kin.{boxes}
-use Rattle.payloads.specs.Payloads.{payloadsFrom}
-use Rattle.verdicts.specs.Sweep.{bytes}
-use Rattle.movie.proofs.Steps.{onward, some}
+use Rattle.movie.proofs.Steps.{some}
 use borrow.Author.Needs.{needs}
 use Rattle.movie.proofs.has_samples.Statement.{statement}
 use Rattle.movie.proofs.has_samples.Tie as tie
-use Rattle.movie.proofs.has_samples.Reads as reads
-use Rattle.movie.proofs.has_samples.Lts as lts
-use Rattle.movie.proofs.few.Reads as few-reads
 
 abbrev Inv-loop : tie.InvT-loop
 Inv-loop count tracks end i₀ i = some tracks count i ≡ some tracks count 0
@@ -22,39 +16,30 @@ Inv-loop count tracks end i₀ i = some tracks count i ≡ some tracks count 0
 abbrev μ-loop : tie.MeasureT-loop
 μ-loop count tracks end i₀ i = end - i
 
--- src/lib.rt:105:9
 few-requires : tie.Need-few-requires Inv-loop μ-loop
 few-requires c κs = search needs
 
--- src/lib.rt:107:5
 loop-holds : tie.Need-loop-holds Inv-loop μ-loop
 loop-holds c = refl
 
--- src/lib.rt:108:21
 mul-track : tie.Need-mul-track Inv-loop μ-loop
 mul-track c = search needs
 
--- src/lib.rt:108:21
 array-copy-out-track : tie.Need-array-copy-out-track Inv-loop μ-loop
 array-copy-out-track c = search needs
 
--- src/lib.rt:111:13
 returns : tie.Need-returns Inv-loop μ-loop
 returns c = let b : c .before .before .before .before .before .loop .i < length (c .before .before .before .before .before .before .before .args .t1) = omega (arith, c .before .before .before .before .before .before .before .good .0, c .before .before .before .before .before .before .few .ensures) in let k : c .before .before .before .before .before .loop .i < c .before .before .before .before .before .before .before .args .count = omega (arith, c .before .before .before .before .before .before .few .ensures) in some-here (c .before .before .before .before .before .before .before .args .t1) (c .before .before .before .before .before .before .before .args .count) (c .before .before .before .before .before .loop .i) _ k b (c .if1 .taken) ∙ c .before .before .before .before .before .loop .inv
 
--- src/lib.rt:113:9
 add-i : tie.Need-add-i Inv-loop μ-loop
 add-i c = search needs
 
--- src/lib.rt:107:5
 loop-less : tie.Need-loop-less Inv-loop μ-loop
 loop-less c = search needs
 
--- src/lib.rt:107:5
 loop-again : tie.Need-loop-again Inv-loop μ-loop
 loop-again c = let b : c .before .before .before .before .before .loop .i < length (c .before .before .before .before .before .before .before .args .t1) = omega (arith, c .before .before .before .before .before .before .before .good .0, c .before .before .before .before .before .before .few .ensures) in let k : c .before .before .before .before .before .loop .i < c .before .before .before .before .before .before .before .args .count = omega (arith, c .before .before .before .before .before .before .few .ensures) in some-later (c .before .before .before .before .before .before .before .args .t1) (c .before .before .before .before .before .before .before .args .count) (c .before .before .before .before .before .loop .i) _ k b (c .if1 .left) ∙ c .before .before .before .before .before .loop .inv
 
--- src/lib.rt:102:1
 returns-2 : tie.Need-returns-2 Inv-loop μ-loop
 returns-2 c = some-none (c .before .before .before .args .t1) (c .before .before .before .args .count) (c .before .loop .i) (omega (arith, c .before .before .before .good .0)) (omega (arith, c .before .before .few .ensures)) ∙ c .before .loop .inv
 

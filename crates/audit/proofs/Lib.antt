@@ -1,0 +1,3 @@
+mod Recorded
+mod Gather
+mod Answers
