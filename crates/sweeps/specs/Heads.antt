@@ -20,6 +20,7 @@ use Rattle.sweeps.specs.declared.Turn.the-variants.{Skip, Take, Stray, S
 
 -- HEADS
 
+-- a head, by its numbers
 abbrev pub ahead : Bool → ℕ → ℕ → ℕ → ℕ → Head
 ahead b t n o z = record { live = b; track = t; number = n; offset = o; size = z }
 
@@ -27,9 +28,11 @@ ahead b t n o z = record { live = b; track = t; number = n; offset = o; size = z
 abbrev pub claimed : ℕ → Head → Finding
 claimed k h = record { number = k; track = h .track; sample = h .number; position = h .offset; gap = pos 0 }
 
+-- one that starts where it must not: F5 if that lies in a payload, else F4
 abbrev pub strayOf : List Span → Head → Answer
 strayOf all h = found (when (inSome (h .offset) all) (claimed 5 h) (claimed 4 h))
 
+-- the first that is left
 abbrev pub leftIn : List Span → List Head → Answer
 leftIn all [] = passes
 leftIn all (h ∷ hs) = when (h .live) (strayOf all h) (leftIn all hs)
@@ -68,6 +71,7 @@ many (h ∷ hs) (x ∷ xs) = one (h .live) + length (samplesOf x) + many hs xs
 abbrev pub nothing : Seen
 nothing = record { below = 4; first = 4; second = 4 }
 
+-- beside what was seen, the next sample of track t, which starts at o
 unfoldable pub seeAt : Seen → ℕ → ℕ → ℕ → Seen
 seeAt l t p o =
     when (ltb o p) (when (eqb (l .below) 4) (record { below = t; first = l .first; second = l .second }) l)
@@ -76,6 +80,7 @@ seeAt l t p o =
     (when (eqb (l .second) 4) (record { below = l .below; first = l .first; second = t }) l))
     l)
 
+-- and those of all tracks from t on
 abbrev pub lookAt : Seen → ℕ → ℕ → List Head → Seen
 lookAt l t p [] = l
 lookAt l t p (h ∷ hs) = lookAt (when (h .live) (seeAt l t p (h .offset)) l) (suc t) p hs
@@ -96,6 +101,7 @@ pub record Takes (all : List Span) (c : Span) (m : List Span) (k : ℕ) (hs : Li
   pub refilled : (d : Track) (h : Head) (x : Track) → Known h x (getD xs t d) → State k′ (set hs t h) (set xs t x) after
   pub less : (d : Track) (h : Head) (x : Track) → Known h x (getD xs t d) → weight (length ts) k′ (set hs t h) (set xs t x) < weight (length ts) k hs xs
 
+-- what an answer says of the tracks ts, where c is left of the payload and m are those after it
 abbrev pub TurnBy : List Span → Span → List Span → ℕ → List Head → List Track → List Track → Turn → Type 0
 TurnBy all c m k hs xs ts Skip = (length ts ≤ k) × (c .from ≡ c .to)
 TurnBy all c m k hs xs ts (Take t q k′) = Takes all c m k hs xs ts t q k′

@@ -68,6 +68,7 @@ fn see(l: Seen, t: usize, p: u64, o: u64) -> Seen
     l
 }
 
+// What is seen at p.
 fn look(p: u64, heads: [Head; 4]) -> Seen
     ensures { λ r. ⌜ r ≡ lookAt nothing 0 p heads ⌝ }
 {
@@ -100,8 +101,8 @@ fn claim(number: u32, h: Head) -> Finding
     }
 }
 
-// What comes next: Skip, the payload is at its end; Take, track t's next sample is taken, up to `to`, and its lane is asked
-// for the one after it, so that so many tracks are filled; Stray, a track's next sample starts where it must not.
+// What comes next. Skip: the payload is at its end. Take: that track's next sample is taken, up to `to`, and its lane is
+// asked for the one after it, with which so many tracks are filled. Stray: a next sample starts where it must not.
 pub(crate) enum Turn {
     Skip,
     Take {
@@ -113,8 +114,8 @@ pub(crate) enum Turn {
     Stop(Finding),
 }
 
-// At p in a payload that ends there, with the first `filled` of so many tracks filled. A track that is not filled yet is
-// filled first.
+// At p in a payload up to `end`, with the first `filled` of `count` tracks filled. Where one is not filled yet that comes
+// first, and no sample is taken: so the lanes are asked for their first samples at the place that asks for all others.
 fn decide(heads: [Head; 4], filled: usize, count: usize, p: u64, end: u64) -> Turn
     requires { ⌜ p ≤ end ⌝ }
     ensures { λ r. ⌜ TurnIs heads filled count p end r ⌝ }
@@ -206,6 +207,7 @@ fn left_over(
     Asked::Passes
 }
 
+// The head of a track that has no sample left.
 fn dead(track: u32) -> Head
     ensures { λ r. ⌜ r ≡ ahead false track 0 0 0 ⌝ }
 {
