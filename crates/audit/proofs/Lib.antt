@@ -1,3 +1,5 @@
 mod Recorded
 mod Gather
 mod Answers
+mod Times
+pub mod Clean

@@ -1,3 +1,4 @@
 pub mod Boxes
 pub mod File
 pub mod Inside
+pub mod Meaning
