@@ -2,11 +2,13 @@
 use mathlib.Core.Path.{_≡_, refl, sym, ap, _∙_}
 use mathlib.Core.List.{List}
 use mathlib.Core.Bool.{Bool, true, false}
-use Prim.Native.Nat.{ℕ, _+_, _-_, _<_, _≤_}
+use Prim.Native.Nat.{ℕ, _+_, _-_, _<_, _≤_, min}
+use native.Mathlib.Omega.{arith}
 use lib.Dec.{eqb}
 use Rattle.numbers.specs.Field.{when}
 use Rattle.numbers.proofs.Chain.{is-eq, is-ne}
 use Rattle.places.specs.Kinds.{trex, tfhd}
+use Rattle.places.specs.Visit.{boxLimit}
 use Rattle.kin.specs.Kin.{Boxes}
 use Rattle.inside.specs.Inside.{inParent, child}
 use Rattle.needed.specs.Needed.{each, needed, trackOf, extends, trexOf, neededTrex, missing}
@@ -24,13 +26,13 @@ module _ (s : List ℕ) (t : Boxes) (track : ℕ) where
   unfolding trexOf
   trex-next j r e g h = row-next (extends s t track) j r e g h
 
-  pub trex-at : (i j : ℕ) (r : Bool) → j < i → trexOf s t j track ≡ 0 → r ≡ extends s t track j → r ≡ true → j + 1 ≡ trexOf s t i track
+  pub trex-at : (i k j : ℕ) (r : Bool) → i ≡ k → j < i → trexOf s t j track ≡ 0 → r ≡ extends s t track j → r ≡ true → j + 1 ≡ trexOf s t k track
   unfolding trexOf
-  trex-at i j r l e g h = row-at (extends s t track) j r e g i l h
+  trex-at i k j r w l e g h = row-at (extends s t track) j r e g i l h ∙ ap (λ x. trexOf s t x track) w
 
-  pub trex-end : (i j : ℕ) → j ≤ i → i ≤ j → trexOf s t j track ≡ 0 → 0 ≡ trexOf s t i track
+  pub trex-end : (i k j : ℕ) → i ≡ k → j ≤ i → i ≤ j → trexOf s t j track ≡ 0 → 0 ≡ trexOf s t k track
   unfolding trexOf
-  trex-end i j l h e = first-end _ i j l h e
+  trex-end i k j w l h e = first-end _ i j l h e ∙ ap (λ x. trexOf s t x track) w
 
 -- EACH CHILD
 
@@ -70,9 +72,9 @@ module _ (t : Boxes) (n kind p rest r : ℕ) (e : r ≡ child t n kind p) where
   neither h q = is-eq _ _ _ (child t n kind p) 0 (sym e ∙ h) q
 
 -- the trex of the track that a tfhd names
-module _ (s : List ℕ) (t : Boxes) (n p rest head track r : ℕ) (e : head ≡ child t n tfhd p) (g : track ≡ trackOf s t (head - 1)) (f : r ≡ trexOf s t n track) where
+module _ (s : List ℕ) (t : Boxes) (n p rest head track r : ℕ) (e : head ≡ child t n tfhd p) (g : track ≡ trackOf s t (head - 1)) (f : r ≡ trexOf s t (min n boxLimit) track) (few : n ≤ boxLimit) where
   same : r ≡ trexOf s t n (trackOf s t (child t n tfhd p - 1))
-  same = f ∙ ap (λ x. trexOf s t n x) (g ∙ ap (λ h. trackOf s t (h - 1)) e)
+  same = f ∙ ap (λ k. trexOf s t k track) (let z : min n boxLimit ≡ n = omega arith in z) ∙ ap (λ x. trexOf s t n x) (g ∙ ap (λ h. trackOf s t (h - 1)) e)
 
   pub trex-lacking : r ≡ 0 → trex ≡ neededTrex s t n (trackOf s t (child t n tfhd p - 1)) rest
   unfolding neededTrex

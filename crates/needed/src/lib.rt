@@ -17,12 +17,6 @@ pub enum Missing {
     Box(u32),
 }
 
-fn rows(n: usize) -> usize
-    ensures { λ r. ⌜ r ≡ min n boxLimit ⌝ }
-{
-    if n < 4096 { n } else { 4096 }
-}
-
 fn or_else(a: u32, b: u32) -> u32
     ensures { λ r. ⌜ r ≡ orElse a b ⌝ }
 {
@@ -68,7 +62,7 @@ pub fn first_missing(
 ) -> Missing
     ensures { λ r. ⌜ r ≡ missingOf (now (s .entry)) (boxes (now (starts .entry)) (now (sizes .entry)) (now (kinds .entry)) (now (parents .entry)) (now (placed .entry))) n ⌝ }
 {
-    let kind = in_file(s, rows(n), starts, sizes, kinds, parents, placed);
+    let kind = in_file(s, parent::rows(n), starts, sizes, kinds, parents, placed);
     if kind == 0 {
         return Missing::Nothing;
     }

@@ -1,8 +1,9 @@
 // What a fragment lacks: the four letters of the first needed box that is missing in it, or 0.
 ghost use mathlib.Core.Path.{_≡_};
-ghost use Prim.Native.Nat.{_<_, _≤_, _+_};
+ghost use Prim.Native.Nat.{_<_, _≤_, _+_, min};
 ghost use Rattle.numbers.specs.Field.{when};
 ghost use Rattle.places.specs.Kinds.{moof, trex, traf};
+ghost use Rattle.places.specs.Visit.{boxLimit};
 ghost use Rattle.keys.specs.Key.{keyOf};
 ghost use Rattle.kin.specs.Kin.{boxes, stands};
 ghost use Rattle.contents.specs.Held.{partOf, is};
@@ -85,8 +86,8 @@ fn extends(
     false
 }
 
-// The trex of a track: its row and 1, or 0.
-fn trex_of(
+// The trex of a track among n recorded boxes: its row and 1, or 0.
+pub fn trex_of(
     s: &[u8],
     track: u64,
     n: usize,
@@ -96,11 +97,11 @@ fn trex_of(
     parents: &[usize; 4096],
     placed: &[usize; 4096],
 ) -> usize
-    requires { ⌜ n ≤ 4096 ⌝ }
-    ensures { λ r. ⌜ r ≡ trexOf (now (s .entry)) (boxes (now (starts .entry)) (now (sizes .entry)) (now (kinds .entry)) (now (parents .entry)) (now (placed .entry))) n track ⌝ }
+    ensures { λ r. ⌜ r ≡ trexOf (now (s .entry)) (boxes (now (starts .entry)) (now (sizes .entry)) (now (kinds .entry)) (now (parents .entry)) (now (placed .entry))) (min n boxLimit) track ⌝ }
 {
+    let end = parent::rows(n);
     let mut j = 0;
-    while j < n {
+    while j < end {
         if extends(s, track, j, starts, sizes, kinds, parents, placed) {
             return j + 1;
         }

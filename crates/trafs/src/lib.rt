@@ -1,28 +1,16 @@
 // The run of a traf, by its boxes that are recorded in the tables. A box is named by its row and 1; 0 names none.
 ghost use mathlib.Core.Path.{_≡_};
-ghost use Prim.Native.Nat.{_<_, _≤_, min};
-ghost use Rattle.places.specs.Visit.{boxLimit};
-ghost use Rattle.places.specs.Kinds.{trex, tfhd, tfdt};
-ghost use Rattle.keys.specs.Key.{keyOf};
-ghost use Rattle.kin.specs.Kin.{boxes, stands};
-ghost use Rattle.contents.specs.Held.{partOf, is};
-ghost use Rattle.needed.specs.Needed.{extends, trexOf};
+ghost use Rattle.places.specs.Kinds.{tfhd, tfdt};
+ghost use Rattle.kin.specs.Kin.{boxes};
 ghost use Rattle.inside.specs.Inside.{child};
 ghost use Rattle.tfhd.specs.Tfhd.{tfhdOf};
 ghost use Rattle.tfdt.specs.Tfdt.{tfdtOf};
 ghost use Rattle.trafs.specs.Trafs.{ofBox, bytesOf, trexBy, lacking, runOf};
-use keys::Key;
 use numbers::Refusal;
 use places::kinds;
 use runs::Made;
 
 const LAST: usize = 0xffff_ffff_ffff_ffff;
-
-fn rows(n: usize) -> usize
-    ensures { λ r. ⌜ r ≡ min n boxLimit ⌝ }
-{
-    if n < 4096 { n } else { 4096 }
-}
 
 // What a column of the tables says of the box that is named p, or 0.
 pub fn of_box(column: &[usize; 4096], p: usize) -> usize
@@ -35,84 +23,6 @@ pub fn of_box(column: &[usize; 4096], p: usize) -> usize
         return 0;
     }
     column[p - 1]
-}
-
-fn is_trex(
-    j: usize,
-    starts: &[usize; 4096],
-    sizes: &[usize; 4096],
-    kinds: &[usize; 4096],
-    parents: &[usize; 4096],
-    placed: &[usize; 4096],
-) -> bool
-    requires { ⌜ j < 4096 ⌝ }
-    ensures { λ r. ⌜ r ≡ stands (boxes (now (starts .entry)) (now (sizes .entry)) (now (kinds .entry)) (now (parents .entry)) (now (placed .entry))) trex j ⌝ }
-{
-    (placed[j] == 1) & (kinds[j] == kinds::TREX as usize)
-}
-
-// Whether the trex in row j names this track.
-fn names(
-    s: &[u8],
-    track: u64,
-    j: usize,
-    starts: &[usize; 4096],
-    sizes: &[usize; 4096],
-    kinds: &[usize; 4096],
-    parents: &[usize; 4096],
-    placed: &[usize; 4096],
-) -> bool
-    requires { ⌜ j < 4096 ⌝ }
-    ensures { λ r. ⌜ r ≡ is (keyOf trex (partOf (now (s .entry)) (boxes (now (starts .entry)) (now (sizes .entry)) (now (kinds .entry)) (now (parents .entry)) (now (placed .entry))) j)) track ⌝ }
-{
-    match keys::find(kinds::TREX, parts::part(s, starts[j], sizes[j])) {
-        Key::Absent => false,
-        Key::Is(x, _) => x == track,
-    }
-}
-
-// Whether box j is the trex of this track.
-fn extends(
-    s: &[u8],
-    track: u64,
-    j: usize,
-    starts: &[usize; 4096],
-    sizes: &[usize; 4096],
-    kinds: &[usize; 4096],
-    parents: &[usize; 4096],
-    placed: &[usize; 4096],
-) -> bool
-    requires { ⌜ j < 4096 ⌝ }
-    ensures { λ r. ⌜ r ≡ extends (now (s .entry)) (boxes (now (starts .entry)) (now (sizes .entry)) (now (kinds .entry)) (now (parents .entry)) (now (placed .entry))) track j ⌝ }
-{
-    if is_trex(j, starts, sizes, kinds, parents, placed) {
-        return names(s, track, j, starts, sizes, kinds, parents, placed);
-    }
-    false
-}
-
-// The name of a track's trex, or 0.
-fn trex_of(
-    s: &[u8],
-    track: u64,
-    n: usize,
-    starts: &[usize; 4096],
-    sizes: &[usize; 4096],
-    kinds: &[usize; 4096],
-    parents: &[usize; 4096],
-    placed: &[usize; 4096],
-) -> usize
-    requires { ⌜ n ≤ 4096 ⌝ }
-    ensures { λ r. ⌜ r ≡ trexOf (now (s .entry)) (boxes (now (starts .entry)) (now (sizes .entry)) (now (kinds .entry)) (now (parents .entry)) (now (placed .entry))) n track ⌝ }
-{
-    let mut j = 0;
-    while j < n {
-        if extends(s, track, j, starts, sizes, kinds, parents, placed) {
-            return j + 1;
-        }
-        j = j + 1;
-    }
-    0
 }
 
 // The trex of a track, read.
@@ -128,16 +38,7 @@ fn defaults(
 ) -> trex::Found
     ensures { λ r. ⌜ r ≡ trexBy (now (s .entry)) (boxes (now (starts .entry)) (now (sizes .entry)) (now (kinds .entry)) (now (parents .entry)) (now (placed .entry))) n track ⌝ }
 {
-    let p = trex_of(
-        s,
-        track as u64,
-        rows(n),
-        starts,
-        sizes,
-        kinds,
-        parents,
-        placed,
-    );
+    let p = needed::moofs::trex_of(s, track as u64, n, starts, sizes, kinds, parents, placed);
     trex::read(parts::part(s, of_box(starts, p), of_box(sizes, p)))
 }
 

@@ -1,15 +1,10 @@
 use mathlib.Core.Path.{ap, _∙_}
-use Prim.Native.Nat.{ℕ}
 use Rattle.kin.specs.Kin.{boxes}
 use Rattle.trex.specs.Trex as trex-box
-use Rattle.needed.specs.Needed.{trexOf}
 use Rattle.trafs.proofs.Steps.{part-of}
 use borrow.Author.Needs.{needs}
 use Rattle.trafs.proofs.defaults.Statement.{statement}
 use Rattle.trafs.proofs.defaults.Tie as tie
-
-rows-requires : tie.Need-rows-requires
-rows-requires c κs = search needs
 
 trex-of-requires : tie.Need-trex-of-requires
 trex-of-requires c κs = search needs
@@ -27,13 +22,12 @@ read-requires : tie.Need-read-requires
 read-requires c κs = search needs
 
 returns : tie.Need-returns
-returns c = c .read .ensures ∙ ap trex-box.trexOf (part-of (c .before .before .before .before .before .before .before .args .s .now) _ (boxes (c .before .before .before .before .before .before .before .args .starts .now) (c .before .before .before .before .before .before .before .args .sizes .now) (c .before .before .before .before .before .before .before .args .kinds .now) (c .before .before .before .before .before .before .before .args .parents .now) (c .before .before .before .before .before .before .before .args .placed .now)) _ _ _ _ (c .before .part .ensures) (c .before .before .before .of-box .ensures) (c .before .before .of-box2 .ensures) (c .before .before .before .before .trex-of .ensures ∙ ap (λ (m : ℕ). trexOf (c .before .before .before .before .before .before .before .args .s .now) (boxes (c .before .before .before .before .before .before .before .args .starts .now) (c .before .before .before .before .before .before .before .args .sizes .now) (c .before .before .before .before .before .before .before .args .kinds .now) (c .before .before .before .before .before .before .before .args .parents .now) (c .before .before .before .before .before .before .before .args .placed .now)) m (c .before .before .before .before .before .before .before .args .track)) (c .before .before .before .before .before .rows .ensures)))
+returns c = c .read .ensures ∙ ap trex-box.trexOf (part-of (c .before .before .before .before .before .before .args .s .now) _ (boxes (c .before .before .before .before .before .before .args .starts .now) (c .before .before .before .before .before .before .args .sizes .now) (c .before .before .before .before .before .before .args .kinds .now) (c .before .before .before .before .before .before .args .parents .now) (c .before .before .before .before .before .before .args .placed .now)) _ _ _ _ (c .before .part .ensures) (c .before .before .before .of-box .ensures) (c .before .before .of-box2 .ensures) (c .before .before .before .before .trex-of .ensures))
 
 pub defaults-spec : {M : Type 1} → statement M
 defaults-spec =
     tie.close
     (tie.spec
-    rows-requires
     trex-of-requires
     of-box-requires
     of-box-requires-2
