@@ -1,6 +1,6 @@
 // What --help says. Each function tells whether all of it was written.
+use crate::meanings;
 use crate::say;
-use crate::words;
 
 fn calls() -> bool {
     say::text(
@@ -89,7 +89,7 @@ fn clean_does_not_say() -> bool {
 fn finding(number: u32) -> bool {
     say::field(b"    F", number as u64)
         & say::text(b"  ")
-        & words::finding(number)
+        & meanings::finding(number)
         & say::text(b"\n")
 }
 
@@ -109,7 +109,7 @@ fn findings() -> bool {
 fn refusal(number: u32) -> bool {
     say::field(b"    ", number as u64)
         & say::text(b"  ")
-        & words::refusal(number)
+        & meanings::refusal(number)
         & say::text(b"\n")
 }
 

@@ -1,7 +1,7 @@
 // A file's line: its name, and then what there is to say of it. Each function tells whether all of it was written.
+use crate::meanings;
 use crate::say;
 use crate::source::Unread;
-use crate::words;
 use numbers::Refusal;
 use verdicts::Finding;
 
@@ -24,7 +24,7 @@ pub(crate) fn finding(f: Finding) -> bool {
         & say::text(b" gap=")
         & say::signed(f.gap)
         & say::text(b" (")
-        & words::finding(f.number)
+        & meanings::finding(f.number)
         & say::text(b")\n")
 }
 
@@ -41,12 +41,12 @@ pub(crate) fn refusal(q: Refusal) -> bool {
         & say::text(b" detail=")
         & detail(q)
         & say::text(b" (")
-        & words::refusal(q.number)
+        & meanings::refusal(q.number)
         & say::text(b")\n")
 }
 
 pub(crate) fn unread(why: Unread) -> bool {
-    say::text(b"not read (") & words::unread(why) & say::text(b")\n")
+    say::text(b"not read (") & meanings::unread(why) & say::text(b")\n")
 }
 
 // Of a name that no path can have, as much as was read.

@@ -5,9 +5,9 @@
 mod call;
 mod help;
 mod line;
+mod meanings;
 mod say;
 mod source;
-mod words;
 
 use call::Call;
 use source::Source;
