@@ -3,8 +3,16 @@ use crate::say;
 
 pub(crate) enum Call {
     Help,
+    List,
     Files(usize),
     Unknown,
+}
+
+// What is wrong with a call.
+pub(crate) enum Misuse {
+    NoFile,
+    NotOneFile,
+    UnknownOption,
 }
 
 fn same(a: &[u8], b: &[u8]) -> bool {
@@ -21,21 +29,20 @@ fn same(a: &[u8], b: &[u8]) -> bool {
     true
 }
 
-fn is_option(word: &[u8]) -> bool {
-    if word.len() == 0 {
-        return false;
-    }
-    word[0] == b'-'
-}
-
 fn of(word: &[u8]) -> Call {
     if same(word, b"--help") {
         return Call::Help;
     }
+    if same(word, b"--list") {
+        return Call::List;
+    }
     if same(word, b"--") {
         return Call::Files(2);
     }
-    if is_option(word) {
+    if word.len() == 0 {
+        return Call::Files(1);
+    }
+    if word[0] == b'-' {
         return Call::Unknown;
     }
     Call::Files(1)
@@ -48,18 +55,20 @@ pub(crate) fn first() -> Call {
     of(&word[..length])
 }
 
-fn usage() {
-    say::error(b"    framewitness FILE ...       audits files\n");
-    say::error(b"    framewitness -- FILE ...    the same, where the first name begins with -\n");
-    say::error(b"    framewitness --help         explains the verdicts\n");
-}
-
-pub(crate) fn no_file() {
-    say::error(b"framewitness: no file is named\n");
-    usage();
-}
-
-pub(crate) fn unknown_option() {
-    say::error(b"framewitness: the first argument is no option that is known\n");
-    usage();
+// What is wrong with the call, and what calls there are.
+pub(crate) fn wrong(why: Misuse) {
+    match why {
+        Misuse::NoFile => say::error(b"framewitness: no file is named\n"),
+        Misuse::NotOneFile => say::error(b"framewitness: --list takes one file\n"),
+        Misuse::UnknownOption => {
+            say::error(b"framewitness: the first argument is no option that is known\n")
+        }
+    }
+    ;
+    say::error(
+        b"    framewitness FILE ...       audits files\n\
+          \x20   framewitness -- FILE ...    the same, where the first name begins with -\n\
+          \x20   framewitness --list FILE    lists the samples of a file\n\
+          \x20   framewitness --help         explains the verdicts\n",
+    );
 }

@@ -2,30 +2,20 @@
 use crate::meanings;
 use crate::say;
 
-fn calls() -> bool {
+// The calls, what the audit asks, and a file's line.
+fn lines() -> bool {
     say::text(
         b"framewitness FILE ...       audits files, and writes a line for each\n\
           framewitness -- FILE ...    the same, where the first name begins with -\n\
+          framewitness --list FILE    lists the samples of a file (see below)\n\
           framewitness --help         writes this\n\
-          \n",
-    )
-}
-
-// What the audit asks.
-fn question() -> bool {
-    say::text(
-        b"An MP4 file has media data, the bytes of its pictures and sounds, and tables\n\
+          \n\
+          An MP4 file has media data, the bytes of its pictures and sounds, and tables\n\
           that say where in them each sample lies (a picture or a piece of sound) and\n\
           when it is played. The audit asks whether the two fit together. The same\n\
           bytes always have the same answer.\n\
-          \n",
-    )
-}
-
-// A file's line.
-fn lines() -> bool {
-    say::text(
-        b"FILE: clean tracks=2 samples=289 media=33420\n\
+          \n\
+          FILE: clean tracks=2 samples=289 media=33420\n\
           \x20   They fit together: so many tracks, samples and bytes of media data.\n\
           FILE: F5 track=1 sample=5 position=147 gap=0 (words)\n\
           \x20   They do not. This is the first thing that was found; more may be wrong.\n\
@@ -43,40 +33,30 @@ fn lines() -> bool {
     )
 }
 
-fn statuses() -> bool {
+// The list, the exit status, document 01's limits and this program's own, and what clean means: README.md has the same.
+fn bounds() -> bool {
     say::text(
-        b"The exit status is 0 where every file is clean, 1 where one is not, and 2\n\
+        b"A list has a line for each sample, by track in the order of the moov box, tabs\n\
+          between: the track and the number of the sample, the bytes before it in the\n\
+          file and its own, when it is decoded and how long it lasts in the units of time\n\
+          of its track, how much later it is shown, and 1 where decoding may begin with it.\n\
+          A refused file has no list; its line is written instead.\n\
+          \n\
+          The exit status is 0 where every file is clean, 1 where one is not, and 2\n\
           where one was not read or the call is wrong.\n\
-          \n",
-    )
-}
-
-// Document 01's, and this program's own on a file.
-fn limits() -> bool {
-    say::text(
-        b"Limits: a file of 4,194,304 bytes; 4 tracks; 65,536 samples to a track;\n\
+          \n\
+          Limits: a file of 4,194,304 bytes; 4 tracks; 65,536 samples to a track;\n\
           4,096 parts (boxes), 10 deep in each other; 1,024 fragments; times below\n\
           2 to the power of 63. A larger file is not read; past another limit it is\n\
           refused.\n\
-          \n",
-    )
-}
-
-// README.md has the same.
-fn clean_says() -> bool {
-    say::text(
-        b"Clean says: the tables of each track agree with each other. No sample is\n\
+          \n\
+          Clean says: the tables of each track agree with each other. No sample is\n\
           empty, and none but a track's last lasts no time. Every byte of media data\n\
           belongs to exactly one sample. The samples of each track lie in the order of\n\
           their numbers. Fragments follow each other in number and in time. Read the\n\
           numbers beside the word: a file may be clean and hold nothing.\n\
-          \n",
-    )
-}
-
-fn clean_does_not_say() -> bool {
-    say::text(
-        b"Clean does not say what the pictures show, nor who made the file, nor when.\n\
+          \n\
+          Clean does not say what the pictures show, nor who made the file, nor when.\n\
           Nothing is decoded. A file stays clean where neighbouring samples are merged\n\
           into one; where its first or last fragments are lost; where its timescale,\n\
           edit list, composition offsets or sync flags are changed. Bytes outside the\n\
@@ -129,13 +109,5 @@ fn refusals() -> bool {
 }
 
 pub(crate) fn print() -> bool {
-    calls()
-        & question()
-        & lines()
-        & findings()
-        & refusals()
-        & statuses()
-        & limits()
-        & clean_says()
-        & clean_does_not_say()
+    lines() & findings() & refusals() & bounds()
 }

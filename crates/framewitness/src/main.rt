@@ -1,18 +1,27 @@
 // Audits each file that an argument names, and writes a line for each to standard output, in their order: its name and
-// the verdict, or why it was not read. `--help` as the first argument explains the verdicts; behind `--` every argument
-// is a file. At its end it writes one digit to descriptor 3, which the command at the repository's top makes its exit
-// status: 0 where every file is clean, 1 where one is not, 2 where one was not read or the call is wrong.
+// the verdict, or why it was not read. `--list` as the first argument writes the samples of one file instead, `--help`
+// explains the verdicts; behind `--` every argument is a file. At its end it writes one digit to descriptor 3, which the
+// command at the repository's top makes its exit status: 0 where every file is clean, 1 where one is not, 2 where one was
+// not read or the call is wrong.
 mod call;
 mod help;
 mod line;
+mod list;
 mod meanings;
 mod say;
 mod source;
 
 use call::Call;
+use call::Misuse;
 use source::Source;
 use source::Unread;
 use verdicts::Audited;
+
+// What is told of a file: its verdict, or its samples.
+enum Task {
+    Audit,
+    List,
+}
 
 const STATUS_FILENO: i32 = 3;
 
@@ -36,63 +45,80 @@ fn written(whole: bool, status: u8) -> u8 {
     NO_VERDICT
 }
 
-fn not_read(why: Unread) -> u8 {
-    written(line::unread(why), NO_VERDICT)
+fn not_read(name: &[u8], why: Unread) -> u8 {
+    written(line::name(name) & line::unread(why), NO_VERDICT)
 }
 
-fn audit_bytes(file: &[u8]) -> u8 {
-    match audit::audit(file) {
+fn tell_verdict(name: &[u8], audited: Audited) -> u8 {
+    let named = line::name(name);
+    match audited {
         Audited::Clean {
             tracks,
             samples,
             media,
-        } => written(line::clean(tracks, samples, media), CLEAN),
-        Audited::Found(finding) => written(line::finding(finding), NOT_CLEAN),
-        Audited::Refused(refusal) => written(line::refusal(refusal), NOT_CLEAN),
+        } => written(named & line::clean(tracks, samples, media), CLEAN),
+        Audited::Found(finding) => written(named & line::finding(finding), NOT_CLEAN),
+        Audited::Refused(refusal) => written(named & line::refusal(refusal), NOT_CLEAN),
+    }
+}
+
+// The samples, and the status of the verdict; the verdict itself where it is why there are none.
+fn tell_samples(name: &[u8], file: &[u8], audited: Audited) -> u8 {
+    match audited {
+        Audited::Clean {
+            tracks: _,
+            samples: _,
+            media: _,
+        } => written(list::print(file), CLEAN),
+        Audited::Found(_) => written(list::print(file), NOT_CLEAN),
+        Audited::Refused(refusal) => tell_verdict(name, Audited::Refused(refusal)),
     }
 }
 
 // Of the room only what was read of this file is handed on. A file may be cut, or a read fail, after its size was asked.
-fn audit_sized(fd: i32, size: usize, room: &mut [u8]) -> u8 {
+fn answer_sized(task: Task, name: &[u8], fd: i32, size: usize, room: &mut [u8]) -> u8 {
     let got = io::read_full(fd, room);
     if got != size {
-        return not_read(Unread::NotWhole);
+        return not_read(name, Unread::NotWhole);
     }
-    audit_bytes(&room[..got])
+    let audited = audit::audit(&room[..got]);
+    match task {
+        Task::Audit => tell_verdict(name, audited),
+        Task::List => tell_samples(name, &room[..got], audited),
+    }
 }
 
-fn audit_source(fd: i32, room: &mut [u8]) -> u8 {
+fn answer_source(task: Task, name: &[u8], fd: i32, room: &mut [u8]) -> u8 {
     match source::of(fd) {
-        Source::Sized(size) => audit_sized(fd, size, room),
-        Source::Not(why) => not_read(why),
+        Source::Sized(size) => answer_sized(task, name, fd, size, room),
+        Source::Not(why) => not_read(name, why),
     }
 }
 
-fn audit_named(name: &[u8], room: &mut [u8]) -> u8 {
+fn answer_named(task: Task, name: &[u8], room: &mut [u8]) -> u8 {
     let fd = os::open_read(name);
     if fd < 0 {
-        return not_read(Unread::Unopened);
+        return not_read(name, Unread::Unopened);
     }
-    let status = audit_source(fd, room);
+    let status = answer_source(task, name, fd, room);
     libc::close(fd);
     status
 }
 
-fn audit_argument(i: usize, room: &mut [u8]) -> u8 {
+fn answer_argument(task: Task, i: usize, room: &mut [u8]) -> u8 {
     let mut name = io::buffer();
     let length = os::arg(i, &mut name);
     if os::errno() != 0 {
         return written(line::too_long(&name), NO_VERDICT);
     }
-    let named = written(line::name(&name[..length]), CLEAN);
-    worse(named, audit_named(&name[..length], room))
+    answer_named(task, &name[..length], room)
 }
 
 fn audit_files(first: usize, n: usize, room: &mut [u8]) -> u8 {
     let mut status = CLEAN;
     let mut i = first;
     while i < n {
-        status = worse(status, audit_argument(i, room));
+        status = worse(status, answer_argument(Task::Audit, i, room));
         i += 1;
     }
     status
@@ -102,18 +128,28 @@ fn audit_files(first: usize, n: usize, room: &mut [u8]) -> u8 {
 fn audit_from(first: usize, room: &mut [u8]) -> u8 {
     let n = os::arg_count();
     if n <= first {
-        call::no_file();
+        call::wrong(Misuse::NoFile);
         return NO_VERDICT;
     }
     audit_files(first, n, room)
 }
 
+// The one argument behind --list.
+fn list_one(room: &mut [u8]) -> u8 {
+    if os::arg_count() != 3 {
+        call::wrong(Misuse::NotOneFile);
+        return NO_VERDICT;
+    }
+    answer_argument(Task::List, 2, room)
+}
+
 fn answer(room: &mut [u8]) -> u8 {
     match call::first() {
         Call::Help => written(help::print(), CLEAN),
+        Call::List => list_one(room),
         Call::Files(first) => audit_from(first, room),
         Call::Unknown => {
-            call::unknown_option();
+            call::wrong(Misuse::UnknownOption);
             NO_VERDICT
         }
     }

@@ -14,8 +14,8 @@ abbrev μ-loop : tie.MeasureT-loop
 loop-holds : tie.Need-loop-holds Inv-loop μ-loop
 loop-holds c = search needs
 
-audit-argument-requires : tie.Need-audit-argument-requires Inv-loop μ-loop
-audit-argument-requires c κs = search needs
+answer-argument-requires : tie.Need-answer-argument-requires Inv-loop μ-loop
+answer-argument-requires c κs = search needs
 
 worse-requires : tie.Need-worse-requires Inv-loop μ-loop
 worse-requires c κs = search needs
@@ -42,7 +42,7 @@ audit-files-spec =
     Inv-loop
     μ-loop
     loop-holds
-    audit-argument-requires
+    answer-argument-requires
     worse-requires
     add-i
     loop-less
