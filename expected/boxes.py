@@ -141,7 +141,8 @@ def hdlr(box):  # 8.4.3
     box.full(0)
     box.reserved(4)
     box.field(4)  # type
-    box.reserved(12)
+    for _ in range(3):
+        box.reserved(4)
     box.bytes()  # name
 
 

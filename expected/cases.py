@@ -185,7 +185,7 @@ def cut():
 def cut_fields():
     """1: a field that is not whole, at its first byte."""
     for kind, length, at in (
-            ("tkhd", 91, 88), ("tkhd", 8, 8), ("mdhd", 30, 30), ("hdlr", 31, 20), ("elst", 27, 26), ("dref", 15, 12), ("url ", 11, 9),
+            ("tkhd", 91, 88), ("tkhd", 8, 8), ("mdhd", 30, 30), ("hdlr", 31, 28), ("elst", 27, 26), ("dref", 15, 12), ("url ", 11, 9),
             ("stsd", 15, 12), ("stts", 23, 20), ("ctts", 16, 16), ("stsc", 27, 24), ("stsz", 31, 28), ("stco", 19, 16), ("co64", 23, 16),
             ("stss", 15, 12), ("mfhd", 15, 12), ("trex", 31, 28), ("tfhd", 12, 12), ("tfdt", 19, 12), ("trun", 27, 24), ("emsg", 25, 22)):
         yield f"1_{kind.strip()}_{length}", f"1 @{kind}+{at}", with_box(kind, short(piece(kind), length))

@@ -18,7 +18,7 @@ from build import hold, mdat, row
 from cases import built, clean, expected
 from damage import box, large, u32
 
-TARGET = pathlib.Path(__file__).resolve().parent / "movies"  # where data, args, stdout and listing are kept
+TARGET = pathlib.Path(__file__).resolve().parent.parent / "crates" / "framewitness"  # where data, args, stdout and listing are kept
 MOST_FILES, MOST_BYTES = 400, 1 << 20  # names in one call; bytes of one file, since the program's buffer may be no larger
 LISTED = ("clean_case2", "clean_ctts", "clean_frag_shifts", "clean_frag_defaults", "clean_frag_no_base", "f4_sizes_64")
 
