@@ -111,11 +111,11 @@ fn until(heads: [Head; 4], t: usize, end: u64) -> u64
     ensures { λ r. ⌜ r ≡ untilIn end 0 t heads ⌝ }
 {
     let mut b = end;
-    let mut i: usize = 0;
-    while i < 4 {
-        let h = heads[i];
-        b = nearer(b, i, t, h);
-        i += 1;
+    let mut other: usize = 0;
+    while other < 4 {
+        let h = heads[other];
+        b = nearer(b, other, t, h);
+        other += 1;
     }
     b
 }
