@@ -1,5 +1,5 @@
 -- The lanes beside the tracks: what each of them has left, and the next sample that it gives. Assumes nothing.
-use Prim.Native.Nat.{ℕ, zero, suc, _<_, min}
+use Prim.Native.Nat.{ℕ, zero, suc, _+_, _≤_, _<_, min}
 use mathlib.Core.Path.{_≡_, refl, sym, ap, ap₂, _∙_, subst}
 use mathlib.Core.List.{List, [], _∷_}
 use mathlib.Core.Bool.{Bool, true, false}
@@ -10,6 +10,7 @@ use Rattle.samples.specs.declared.Sample.{Sample}
 use Rattle.samples.specs.Lists.{held}
 use Rattle.tables.specs.declared.Track as tables
 use Rattle.lanes.specs.declared.Lane as tabled
+use Rattle.lanes.specs.declared.Runs as cursor
 use Rattle.lanes.specs.Lane as table
 use Rattle.lanes.proofs.Left as table-left
 use Rattle.runs.specs.declared.Run.{Run}
@@ -19,8 +20,9 @@ use Rattle.fragments.proofs.Left as run-left
 use Rattle.verdicts.specs.Findings.{Track, track}
 use Rattle.sweeps.specs.declared.Head.{Head}
 use Rattle.sweeps.specs.Tracks.{samplesBy, fitting, tracksIn}
-use Rattle.sweeps.specs.Heads.{ahead, Known, State}
+use Rattle.sweeps.specs.Heads.{ahead, Known, State, Passing, Passed}
 use Rattle.sweeps.proofs.Laws.{fitting-one}
+use Rattle.sweeps.proofs.Runs.{goes-further}
 
 -- THE NEXT SAMPLE OF A LANE
 
@@ -36,6 +38,40 @@ pub gives-one : (n : ℕ) (s : Sample) (l m : List Sample) → (l ≡ s ∷ m) �
 gives-one n s l m e =
     subst (λ (x : List Sample). Known (ahead true n (s .number) (s .offset) (s .size)) (track n true (fitting m)) (track n true x)) (sym (fitting-one l s m e))
     (refl, refl, refl, (refl, refl, refl, refl, refl))
+
+-- a lane that is put together from its parts
+pub as-it-was : (l : tabled.Lane) (a b c : cursor.Runs) → a ≡ l .times → b ≡ l .shifts → c ≡ l .place .groups
+    → record { done = l .done; time = l .time; times = a; shifts = b; syncs = l .syncs; place = record { left = l .place .left; at = l .place .at; chunk = l .place .chunk; groups = c } } ≡ l
+as-it-was l a b c p q r =
+    ap₂ (λ (x y : cursor.Runs). record { done = l .done; time = l .time; times = x; shifts = y; syncs = l .syncs; place = record { left = l .place .left; at = l .place .at; chunk = l .place .chunk; groups = c } }) p q
+    ∙ ap (λ (z : cursor.Runs). record { done = l .done; time = l .time; times = l .times; shifts = l .shifts; syncs = l .syncs; place = record { left = l .place .left; at = l .place .at; chunk = l .place .chunk; groups = z } }) r
+
+pub passed-as : (b e p q n : ℕ) (f : List ℕ) (t : tables.Track) (h : Head) (x : Track) (l l′ : tabled.Lane) → l′ ≡ l
+    → Passed b e p (track n true (fitting (table.left f t l′))) q h x → Passed b e p (track n true (fitting (table.left f t l))) q h x
+passed-as b e p q n f t h x l l′ k w = subst (λ (z : tabled.Lane). Passed b e p (track n true (fitting (table.left f t z))) q h x) k w
+
+-- A RUN OF A LANE
+
+module _ (b e p : ℕ) (y : Track) (q n : ℕ) (l : List Sample) (pass : Passing b e p y q (track n true (fitting l))) where
+  -- it gives none
+  pub ends-none : (h : Head) → h ≡ ahead false n 0 0 0 → fitting l ≡ [] → Passed b e p y q h (track n true (fitting l))
+  ends-none h k f = record { rest = track n true (fitting l); passing = pass; known = gives-none n h l k f }
+
+  module _ (s : Sample) (m : List Sample) (is : (l ≡ s ∷ m) × (held s ≡ true)) where
+    -- it gives s, which is not taken
+    pub ends-one : (h : Head) → h ≡ ahead true n (s .number) (s .offset) (s .size) → Passed b e p y q h (track n true (fitting m))
+    ends-one h k = record {
+      rest = track n true (fitting l);
+      passing = pass;
+      known = subst (λ (z : Head). Known z (track n true (fitting m)) (track n true (fitting l))) (sym k) (gives-one n s l m is);
+    }
+
+    -- it gives s, which is taken
+    pub goes-one : s .offset ≡ q → q < b → b ≤ e → q + s .size ≤ e → Passing b e p y (q + s .size) (track n true (fitting m))
+    goes-one = goes-further b e p y q (track n true (fitting l)) pass n true s (fitting m) (ap (track n true) (fitting-one l s m is))
+
+    pub less-one : length (fitting m) < length (fitting l)
+    less-one = omega (arith, ap (λ (z : List Sample). length z) (fitting-one l s m is))
 
 -- EVERY LANE
 
@@ -86,18 +122,20 @@ module _ (b : Bool) (f : List ℕ) (rs : List Run) (n₀ : ℕ) (t₀ : tables.T
       ap (λ (xs : List Track). laneOf b f rs n t l g ∷ xs) (set-run m ns ts ls gs i (omega arith) (omega arith) (omega arith) (omega arith))
 
 -- only one kind of lane counts
-module _ (f : List ℕ) (rs : List Run) (h : Head) (n : ℕ) (t : tables.Track) where
-  pub known-run : (b : Bool) (l : tabled.Lane) (g g′ : ran.Lane) → b ≡ true → Known h (track n true (fitting (run.left f rs n g′))) (track n true (fitting (run.left f rs n g)))
-      → Known h (laneOf b f rs n t l g′) (laneOf b f rs n t l g)
+module _ (f : List ℕ) (rs : List Run) (u e p q : ℕ) (h : Head) (n : ℕ) (t : tables.Track) where
+  pub passed-run : (b : Bool) (l : tabled.Lane) (g g′ : ran.Lane) → b ≡ true
+      → Passed u e p (track n true (fitting (run.left f rs n g))) q h (track n true (fitting (run.left f rs n g′)))
+      → Passed u e p (laneOf b f rs n t l g) q h (laneOf b f rs n t l g′)
   unfolding when
-  known-run true l g g′ e w = w
-  known-run false l g g′ e w = let z : _≡_ {A = ℕ} 0 1 = cc in absurd (omega arith)
+  passed-run true l g g′ k w = w
+  passed-run false l g g′ k w = let z : _≡_ {A = ℕ} 0 1 = cc in absurd (omega arith)
 
-  pub known-table : (b : Bool) (l l′ : tabled.Lane) (g : ran.Lane) → b ≡ false → Known h (track n true (fitting (table.left f t l′))) (track n true (fitting (table.left f t l)))
-      → Known h (laneOf b f rs n t l′ g) (laneOf b f rs n t l g)
+  pub passed-table : (b : Bool) (l l′ : tabled.Lane) (g : ran.Lane) → b ≡ false
+      → Passed u e p (track n true (fitting (table.left f t l))) q h (track n true (fitting (table.left f t l′)))
+      → Passed u e p (laneOf b f rs n t l g) q h (laneOf b f rs n t l′ g)
   unfolding when
-  known-table false l l′ g e w = w
-  known-table true l l′ g e w = let z : _≡_ {A = ℕ} 0 1 = cc in absurd (omega arith)
+  passed-table false l l′ g k w = w
+  passed-table true l l′ g k w = let z : _≡_ {A = ℕ} 0 1 = cc in absurd (omega arith)
 
 -- THE START
 

@@ -1,6 +1,7 @@
 pub mod Laws
 mod Looks
 mod Bridge
+mod Runs
 mod Turns
 mod Lanes
 mod Walk

@@ -14,7 +14,7 @@ use Rattle.verdicts.specs.Findings.{Span, asked}
 use Rattle.verdicts.specs.Sweep.{inSome}
 use Rattle.sweeps.specs.declared.Head.{Head}
 use Rattle.sweeps.specs.declared.Seen.{Seen}
-use Rattle.sweeps.specs.Heads.{claimed, strayOf, leftIn, seeAt, lookAt}
+use Rattle.sweeps.specs.Heads.{claimed, strayOf, leftIn, seeAt, lookAt, nearerAt, untilIn}
 
 -- ONE HEAD
 
@@ -64,6 +64,36 @@ module _ (p : ℕ) (hs : List Head) (t : ℕ) (h : t < length hs) (d : Head) (l 
 
 pub look-end : (l : Seen) (p : ℕ) (hs : List Head) (t : ℕ) → length hs ≤ t → lookAt l t p (drop t hs) ≡ l
 look-end l p hs t h = rw (drop-of-length-le hs h)
+
+-- THE NEAREST OF THE OTHERS
+
+module _ (b i t : ℕ) (h : Head) where
+  pub nearer-dead : h .live ≡ false → b ≡ nearerAt b i t h
+  unfolding nearerAt
+  nearer-dead k = by-false _ _ _ (h .live) k refl
+
+  module _ (k : h .live ≡ true) where
+    pub nearer-own : i ≡ t → b ≡ nearerAt b i t h
+    unfolding nearerAt
+    nearer-own e = by-true _ _ _ (h .live) k (is-eq _ _ _ i t e refl)
+
+    pub nearer-less : (i ≡ t → ⊥) → h .offset < b → h .offset ≡ nearerAt b i t h
+    unfolding nearerAt
+    nearer-less n l = by-true _ _ _ (h .live) k (is-ne _ _ _ i t n (is-lt _ _ _ (h .offset) b l refl))
+
+    pub nearer-more : (i ≡ t → ⊥) → b ≤ h .offset → b ≡ nearerAt b i t h
+    unfolding nearerAt
+    nearer-more n l = by-true _ _ _ (h .live) k (is-ne _ _ _ i t n (not-lt _ _ _ (h .offset) b l refl))
+
+module _ (t : ℕ) (hs : List Head) (i : ℕ) (h : i < length hs) (d : Head) (b : ℕ) where
+  until-turn : untilIn (nearerAt b i t (getD hs i d)) (i + 1) t (drop (i + 1) hs) ≡ untilIn b i t (drop i hs)
+  until-turn = rw (drop-cons hs i d h, add-one i) refl
+
+  pub until-on : (b′ : ℕ) → b′ ≡ nearerAt b i t (getD hs i d) → untilIn b′ (i + 1) t (drop (i + 1) hs) ≡ untilIn b i t (drop i hs)
+  until-on b′ e = ap (λ z. untilIn z (i + 1) t (drop (i + 1) hs)) e ∙ until-turn
+
+pub until-end : (t : ℕ) (hs : List Head) (i b : ℕ) → length hs ≤ i → untilIn b i t (drop i hs) ≡ b
+until-end t hs i b h = rw (drop-of-length-le hs h)
 
 -- A STRAY SAMPLE
 

@@ -8,6 +8,8 @@ use native.Mathlib.Omega.{arith}
 use native.Mathlib.Numerals.{add-one}
 use lib.ListN.{getD, length, set, length-set}
 use lib.IntN.{pos}
+use lib.Dec.{ltb, eqb}
+use borrow.Author.Tests.{ltb-true, ltb-false, eqb-true}
 use Rattle.numbers.specs.Field.{when}
 use Rattle.numbers.proofs.Chain.{is-ne, is-le, not-le}
 use Rattle.samples.specs.declared.Sample.{Sample}
@@ -18,7 +20,8 @@ use Rattle.verdicts.proofs.Steps.{sweep-stops, sweep-goes}
 use Rattle.payloads.specs.Payloads.{span}
 use Rattle.sweeps.specs.declared.Head.{Head}
 use Rattle.sweeps.specs.declared.Seen.{Seen}
-use Rattle.sweeps.specs.Heads.{claimed, strayOf, leftIn, Known, State, one, many, nothing, seeAt, lookAt, Takes}
+use Rattle.sweeps.specs.Heads.{claimed, strayOf, leftIn, Known, State, one, many, nothing, seeAt, lookAt, nearerAt, untilIn, Beyond, Takes}
+use Rattle.sweeps.proofs.Runs.{set-set, get-set, beyond-set}
 use Rattle.sweeps.proofs.Bridge.{lookIn, Next, FirstBelow, Below, Only, Two, First, below-found, first-found}
 
 -- HEADS AND TRACKS
@@ -106,35 +109,92 @@ module _ (d : Head) (e : Track) (n : ℕ) (a : Bool) (s : Sample) (x : List Samp
       let r = named-at k hs xs ts (omega arith) (st .1) i (omega arith) q in
       record { low = omega (arith, r .low); is-live = r .is-live; track-is = r .track-is; number-is = r .number-is; offset-is = r .offset-is; size-is = r .size-is }
 
-  -- its sample is taken, and its lane gives the next
-  retaken : (h : Head) (y : Track) (k : ℕ) (hs : List Head) (xs ts : List Track) → length ts ≤ k → State k hs xs ts → (i : ℕ) → i < length ts → getD ts i e ≡ track n a (s ∷ x)
-      → Known h y (getD xs i e) → State k (set hs i h) (set xs i y) (set ts i (track n a x))
-  retaken h y k [] xs [] g st i l q w = absurd (omega arith)
-  retaken h y k [] xs (t ∷ ts) g st i l q w = absurd st
-  retaken h y k (o ∷ hs) xs [] g st i l q w = absurd (omega arith)
-  retaken h y k (o ∷ hs) [] (t ∷ ts) g st i l q w = absurd st
-  retaken h y zero (o ∷ hs) (z ∷ xs) (t ∷ ts) g st i l q w = absurd (omega arith)
-  retaken h y (suc k) (o ∷ hs) (track j b r ∷ xs) (track m c [] ∷ ts) g st zero l q w = let z : _≡_ {A = ℕ} 0 1 = cc in absurd (omega arith)
-  retaken h y (suc k) (o ∷ hs) (track j b r ∷ xs) (track m c (u ∷ v) ∷ ts) g st zero l q w =
+  -- its sample is taken: what is left of it is what its lane has
+  lane-has : (k : ℕ) (hs : List Head) (xs ts : List Track) → length ts ≤ k → State k hs xs ts → (i : ℕ) → i < length ts → getD ts i e ≡ track n a (s ∷ x) → track n a x ≡ getD xs i e
+  lane-has k [] xs [] g st i l q = absurd (omega arith)
+  lane-has k [] xs (t ∷ ts) g st i l q = absurd st
+  lane-has k (o ∷ hs) xs [] g st i l q = absurd (omega arith)
+  lane-has k (o ∷ hs) [] (t ∷ ts) g st i l q = absurd st
+  lane-has zero (o ∷ hs) (z ∷ xs) (t ∷ ts) g st i l q = absurd (omega arith)
+  lane-has (suc k) (o ∷ hs) (track j b r ∷ xs) (track m c [] ∷ ts) g st zero l q = let z : _≡_ {A = ℕ} 0 1 = cc in absurd (omega arith)
+  lane-has (suc k) (o ∷ hs) (track j b r ∷ xs) (track m c (u ∷ v) ∷ ts) g st zero l q =
       let e1 : j ≡ m = st .0 .1 in
       let e2 : b ≡ c = st .0 .2 in
       let e3 : r ≡ v = st .0 .3 .4 in
-      let e4 : track j b r ≡ track n a x = cc in
-      (subst (λ (z : Track). Known h y z) e4 w, st .1)
-  retaken h y (suc k) (o ∷ hs) (z ∷ xs) (t ∷ ts) g st (suc i) l q w = (st .0, retaken h y k hs xs ts (omega arith) (st .1) i (omega arith) q w)
+      cc
+  lane-has (suc k) (o ∷ hs) (z ∷ xs) (t ∷ ts) g st (suc i) l q = lane-has k hs xs ts (omega arith) (st .1) i (omega arith) q
+
+-- THE OTHERS
+
+nearer-le : (b i t : ℕ) (h : Head) → nearerAt b i t h ≤ b
+unfolding nearerAt when
+nearer-le b i t h = cases (h .live) (eqb i t) (ltb (h .offset) b) refl
+  where
+    cases : (x y z : Bool) → ltb (h .offset) b ≡ z → when x (when y b (when z (h .offset) b)) b ≤ b
+    cases false y z e = omega arith
+    cases true true z e = omega arith
+    cases true false true e = omega (arith, ltb-true (h .offset) b e)
+    cases true false false e = omega arith
+
+-- a live head of another track is a bound
+nearer-other : (b i t : ℕ) (h : Head) → h .live ≡ true → (i ≡ t → ⊥) → nearerAt b i t h ≤ h .offset
+unfolding nearerAt when
+nearer-other b i t h l n = cases (h .live) (eqb i t) (ltb (h .offset) b) l refl refl
+  where
+    cases : (x y z : Bool) → x ≡ true → eqb i t ≡ y → ltb (h .offset) b ≡ z → when x (when y b (when z (h .offset) b)) b ≤ h .offset
+    cases false y z l f e = let w : _≡_ {A = ℕ} 0 1 = cc in absurd (omega arith)
+    cases true true z l f e = absurd (n (eqb-true i t f))
+    cases true false true l f e = omega arith
+    cases true false false l f e = ltb-false (h .offset) b e
+
+until-le : (b i t : ℕ) (hs : List Head) → untilIn b i t hs ≤ b
+until-le b i t [] = omega arith
+until-le b i t (h ∷ hs) = omega (arith, until-le (nearerAt b i t h) (suc i) t hs, nearer-le b i t h)
+
+untils : (b i t k : ℕ) (hs : List Head) (xs ts : List Track) → length ts ≤ k → State k hs xs ts → Beyond (untilIn b i t hs) i t ts
+untils b i t k [] xs [] g s = tt
+untils b i t k [] xs (y ∷ ts) g s = absurd s
+untils b i t k (h ∷ hs) xs [] g s = tt
+untils b i t k (h ∷ hs) [] (y ∷ ts) g s = absurd s
+untils b i t zero (h ∷ hs) (x ∷ xs) (y ∷ ts) g s = absurd (omega arith)
+untils b i t (suc k) (h ∷ hs) (track j c z ∷ xs) (track n a [] ∷ ts) g s = (λ o. tt, untils (nearerAt b i t h) (suc i) t k hs xs ts (omega arith) (s .1))
+untils b i t (suc k) (h ∷ hs) (track j c z ∷ xs) (track n a (u ∷ v) ∷ ts) g s = (
+  λ o. omega (arith, until-le (nearerAt b i t h) (suc i) t hs, nearer-other b i t h (s .0 .3 .0) o, s .0 .3 .2),
+  untils (nearerAt b i t h) (suc i) t k hs xs ts (omega arith) (s .1),
+)
 
 -- FILLING
 
-module _ (d : Track) (h : Head) (y : Track) where
+module _ (h : Head) (y z : Track) (w : Known h y z) where
   -- the next track is filled
-  filled : (k : ℕ) (hs : List Head) (xs ts : List Track) → State k hs xs ts → k < length ts → Known h y (getD xs k d) → State (suc k) (set hs k h) (set xs k y) ts
-  filled k [] xs [] st l w = absurd (omega arith)
-  filled k [] xs (t ∷ ts) st l w = absurd st
-  filled k (o ∷ hs) xs [] st l w = absurd (omega arith)
-  filled k (o ∷ hs) [] (t ∷ ts) st l w = absurd st
-  filled zero (o ∷ hs) (x ∷ xs) (t ∷ ts) st l w = (subst (λ (z : Track). Known h y z) (st .1) w, st .2)
-  filled (suc k) (o ∷ hs) (x ∷ xs) (t ∷ ts) st l w = (st .0, filled k hs xs ts (st .1) (omega arith) w)
+  filled : (k : ℕ) (hs : List Head) (xs ts : List Track) → State k hs xs ts → k < length ts → State (suc k) (set hs k h) (set xs k y) (set ts k z)
+  filled k [] xs [] st l = absurd (omega arith)
+  filled k [] xs (t ∷ ts) st l = absurd st
+  filled k (o ∷ hs) xs [] st l = absurd (omega arith)
+  filled k (o ∷ hs) [] (t ∷ ts) st l = absurd st
+  filled zero (o ∷ hs) (x ∷ xs) (t ∷ ts) st l = (w, st .2)
+  filled (suc k) (o ∷ hs) (x ∷ xs) (t ∷ ts) st l = (st .0, filled k hs xs ts (st .1) (omega arith))
 
+  -- one of the filled has another next sample
+  refilled : (k : ℕ) (hs : List Head) (xs ts : List Track) → length ts ≤ k → State k hs xs ts → (i : ℕ) → i < length ts → State k (set hs i h) (set xs i y) (set ts i z)
+  refilled k [] xs [] g st i l = absurd (omega arith)
+  refilled k [] xs (t ∷ ts) g st i l = absurd st
+  refilled k (o ∷ hs) xs [] g st i l = absurd (omega arith)
+  refilled k (o ∷ hs) [] (t ∷ ts) g st i l = absurd st
+  refilled zero (o ∷ hs) (x ∷ xs) (t ∷ ts) g st i l = absurd (omega arith)
+  refilled (suc k) (o ∷ hs) (x ∷ xs) (t ∷ ts) g st zero l = (w, st .1)
+  refilled (suc k) (o ∷ hs) (x ∷ xs) (t ∷ ts) g st (suc i) l = (st .0, refilled k hs xs ts (omega arith) (st .1) i (omega arith))
+
+-- the lane of the next track has all of it
+unfilled-lane : (e : Track) (k : ℕ) (hs : List Head) (xs ts : List Track) → State k hs xs ts → k < length ts → getD ts k e ≡ getD xs k e
+unfilled-lane e k [] xs [] st l = absurd (omega arith)
+unfilled-lane e k [] xs (t ∷ ts) st l = absurd st
+unfilled-lane e k (o ∷ hs) xs [] st l = absurd (omega arith)
+unfilled-lane e k (o ∷ hs) [] (t ∷ ts) st l = absurd st
+unfilled-lane e zero (o ∷ hs) (x ∷ xs) (t ∷ ts) st l = sym (st .1)
+unfilled-lane e (suc k) (o ∷ hs) (x ∷ xs) (t ∷ ts) st l = unfilled-lane e k hs xs ts (st .1) (omega arith)
+
+module _ (d : Track) (h : Head) (y : Track) where
   -- its head was not live
   unfilled : (e : Head) (k : ℕ) (hs : List Head) (xs ts : List Track) → State k hs xs ts → k < length ts → getD hs k e .live ≡ false
   unfilled e k [] xs [] st l = absurd (omega arith)
@@ -158,10 +218,16 @@ module _ (d : Track) (h : Head) (y : Track) where
   many-set e zero (o ∷ hs) (x ∷ xs) a b = omega arith
   many-set e (suc i) (o ∷ hs) (x ∷ xs) a b = omega (arith, many-set e i hs xs (omega arith) (omega arith))
 
-  -- of a lane that gives a sample to a head: as many, but for the head that was there
-  pub many-known : (e : Head) (i : ℕ) (hs : List Head) (xs : List Track) → i < length hs → i < length xs → Known h y (getD xs i d)
-      → many (set hs i h) (set xs i y) + one (getD hs i e .live) ≡ many hs xs
-  many-known e i hs xs a b w = omega (arith, many-set e i hs xs a b, known-many (getD xs i d) w)
+  -- of a lane that gives a sample to a head: at most as many, but for the head that was there
+  pub many-known : (z : Track) (e : Head) (i : ℕ) (hs : List Head) (xs : List Track) → i < length hs → i < length xs → Known h y z → length (samplesOf z) ≤ length (samplesOf (getD xs i d))
+      → many (set hs i h) (set xs i y) + one (getD hs i e .live) ≤ many hs xs
+  many-known z e i hs xs a b w f = omega (arith, many-set e i hs xs a b, known-many z w, f)
+
+-- no bound is below 0
+all-beyond : (i t : ℕ) (ts : List Track) → Beyond 0 i t ts
+all-beyond i t [] = tt
+all-beyond i t (track n a [] ∷ ts) = (λ o. tt, all-beyond (suc i) t ts)
+all-beyond i t (track n a (s ∷ l) ∷ ts) = (λ o. omega arith, all-beyond (suc i) t ts)
 
 -- A TURN
 
@@ -169,20 +235,24 @@ abbrev dead : Head
 dead = record { live = false; track = 0; number = 0; offset = 0; size = 0 }
 
 module _ (hs : List Head) (k n p q : ℕ) (four : length hs ≡ 4) (inside : p ≤ q) (all m : List Span) (xs ts : List Track) (len : length ts ≡ n) (st : State k hs xs ts) where
-  pub fills : k < n → Takes all (span p q) m k hs xs ts k p (k + 1)
+  pub fills : k < n → Takes all (span p q) m k hs xs ts k p 0 (k + 1)
   fills h =
       let l = as-long k hs xs ts st in
       let g : k < length ts = omega (arith, h, len) in
       record {
         low = omega (arith, l .0, g, four);
         stays = inside;
+        bounded = omega arith;
         after = ts;
         as-many = refl;
+        within = g;
         goes = refl;
-        refilled = λ d h x w. rw (add-one k) (filled d h x k hs xs ts st g w);
-        less = λ d h x w. omega (
+        lane = λ d. unfilled-lane d k hs xs ts st g;
+        beyond = all-beyond 0 k ts;
+        refilled = λ h x z w. rw (add-one k) (filled h x z w k hs xs ts st g);
+        less = λ d h x z w f. omega (
           arith,
-          many-known d h x dead k hs xs (omega (arith, l .0, g)) (omega (arith, l .1, g)) w,
+          many-known d h x z dead k hs xs (omega (arith, l .0, g)) (omega (arith, l .1, g)) w f,
           ap one (unfilled d h x dead k hs xs ts st g),
           g,
         );
@@ -271,8 +341,9 @@ module _ (hs : List Head) (k n p q : ℕ) (four : length hs ≡ 4) (inside : p �
                 (sym (not-le _ _ _ (p + only .sample .size) q g refl))
                 ∙ ap found (sym (e ∙ named-as 4 (getD hs (l .first) d) (only .number) (only .sample) (w .track-is) (w .number-is) (w .offset-is)))
 
-            pub takes : (d : Head) → p + getD hs (l .first) d .size ≤ q → Takes all (span p q) m k hs xs ts (l .first) (p + getD hs (l .first) d .size) k
-            takes d h =
+            pub takes : (d : Head) (b : ℕ) → p + getD hs (l .first) d .size ≤ q → b ≡ untilIn q 0 (l .first) hs
+                → Takes all (span p q) m k hs xs ts (l .first) (p + getD hs (l .first) d .size) b k
+            takes d b h eb =
                 let w = name d in
                 let v = only .place in
                 let same : v .ix ≡ l .first = omega (arith, v .is-ix) in
@@ -283,18 +354,23 @@ module _ (hs : List Head) (k n p q : ℕ) (four : length hs ≡ 4) (inside : p �
                 λ e. sym (ap (λ (i : ℕ). getD ts i e) same) ∙ v .next e in
                 let o : step all (span p q ∷ m) ts ≡ go (span (p + only .sample .size) q ∷ m) (advance p ts) =
                 at-step [] (claim (only .number) (only .sample) ∷ []) no-below (only .is) ∙ sym (is-le _ _ _ (p + only .sample .size) q g refl) in
+                let put = track (only .number) (v .agrees) (only .rest) in
                 record {
                   low = hf;
                   stays = h;
+                  bounded = omega (arith, eb, until-le q 0 (l .first) hs);
+                  within = omega (arith, length-set ts (l .first) put, r);
+                  lane = λ e. get-set ts (l .first) put e r ∙ lane-has d e (only .number) (v .agrees) (only .sample) (only .rest) k hs xs ts all-known st (l .first) r (is e);
+                  beyond = beyond-set b 0 (l .first) put ts (l .first) (omega arith) (subst (λ (z : ℕ). Beyond z 0 (l .first) ts) (sym eb) (untils q 0 (l .first) k hs xs ts all-known st));
                   after = set ts (l .first) (track (only .number) (v .agrees) (only .rest));
                   as-many = length-set ts (l .first) (track (only .number) (v .agrees) (only .rest));
                   goes = sweep-goes all (span p q ∷ m) ts (span (p + only .sample .size) q ∷ m) (advance p ts) o
                       ∙ ap₂ (λ (z : ℕ) (y : List Track). sweepFrom all (span (p + z) q ∷ m) y) (w .size-is)
                       (only .taken ∙ ap (λ (i : ℕ). set ts i (track (only .number) (v .agrees) (only .rest))) same);
-                  refilled = λ e y x z. retaken d e (only .number) (v .agrees) (only .sample) (only .rest) y x k hs xs ts all-known st (l .first) r (is e) z;
-                  less = λ e y x z. omega (
+                  refilled = λ y x z w. subst (λ (o : List Track). State k (set hs (l .first) y) (set xs (l .first) x) o) (sym (set-set ts (l .first) put z)) (refilled y x z w k hs xs ts all-known st (l .first) r);
+                  less = λ e y x z w f. omega (
                     arith,
-                    many-known e y x d (l .first) hs xs (omega (arith, s .0, r)) (omega (arith, s .1, r)) z,
-                    ap one (w .is-live),
+                    many-known e y x z d (l .first) hs xs (omega (arith, s .0, r)) (omega (arith, s .1, r)) w f,
+                    ap one (name d .is-live),
                   );
                 }

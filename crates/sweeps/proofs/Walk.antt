@@ -27,9 +27,9 @@ use Rattle.sweeps.specs.declared.Head.{Head}
 use Rattle.sweeps.specs.declared.Turn.{Turn}
 use Rattle.sweeps.specs.declared.Turn.the-variants.{Skip, Take, Stray, Stop}
 use Rattle.sweeps.specs.Tracks.{fitting, tracksIn}
-use Rattle.sweeps.specs.Heads.{strayOf, leftIn, Known, State, weight, Takes, TurnBy, TurnIs}
+use Rattle.sweeps.specs.Heads.{strayOf, leftIn, State, weight, Passed, Takes, TurnBy, TurnIs}
 use Rattle.sweeps.proofs.Turns.{sweep-left}
-use Rattle.sweeps.proofs.Lanes.{laneOf, lanesIn, laneAt, lane-at, set-table, set-run, known-run, known-table, begun, so-many}
+use Rattle.sweeps.proofs.Lanes.{laneOf, lanesIn, laneAt, lane-at, set-table, set-run, passed-run, passed-table, begun, so-many}
 
 -- THE NEXT PAYLOAD
 
@@ -81,24 +81,27 @@ module _ (all : List Span) (start : List Track) (n : ℕ) (hs : List Head) (xs :
       same = ap (λ (z : List Span). sweepFrom all z (w .left)) (sym (g .0)) ∙ onward;
     }
 
-  module _ (t q k′ : ℕ) (o : r ≡ Take t q k′) where
-    it : Takes all (span p e) m k hs xs (w .left) t q k′
-    it = by (Take t q k′) o
+  module _ (t q u k′ : ℕ) (o : r ≡ Take t q u k′) where
+    it : Takes all (span p e) m k hs xs (w .left) t q u k′
+    it = by (Take t q u k′) o
 
     it-low : t < 4
     it-low = it .low
 
-    at-take : (d : Track) (h : Head) (x : Track) → Known h x (getD xs t d)
-        → Sweeping all start n (set hs t h) (set xs t x) k′ q e m × (weight n k′ (set hs t h) (set xs t x) < weight n k hs xs)
-    at-take d h x g = (
+    it-inside : (q ≤ e) × (u ≤ e)
+    it-inside = (it .stays, it .bounded)
+
+    at-take : (d : Track) (q′ : ℕ) (h : Head) (x : Track) → Passed u e q (getD xs t d) q′ h x
+        → Sweeping all start n (set hs t h) (set xs t x) k′ q′ e m × (weight n k′ (set hs t h) (set xs t x) < weight n k hs xs)
+    at-take d q′ h x g = (
       record {
-        left = it .after;
-        as-many = it .as-many ∙ w .as-many;
-        state = it .refilled d h x g;
-        inside = it .stays;
-        same = sym (it .goes) ∙ w .same;
+        left = set (it .after) t (g .rest);
+        as-many = length-set (it .after) t (g .rest) ∙ it .as-many ∙ w .as-many;
+        state = it .refilled h x (g .rest) (g .known);
+        inside = g .passing .stays;
+        same = sym (it .goes ∙ g .passing .goes all m (it .after) t d (it .within) (it .lane d) (it .beyond)) ∙ w .same;
       },
-      subst (λ (z : ℕ). weight z k′ (set hs t h) (set xs t x) < weight z k hs xs) (w .as-many) (it .less d h x g),
+      subst (λ (z : ℕ). weight z k′ (set hs t h) (set xs t x) < weight z k hs xs) (w .as-many) (it .less d h x (g .rest) (g .known) (g .passing .fewer)),
     )
 
 -- WITH THE LANES
@@ -164,11 +167,14 @@ module _ (all : List Span) (start : List Track) (n : ℕ) (b : Bool) (f : List �
       runs-four = w .runs-four;
     }
 
-  module _ (t q k′ : ℕ) (o : r ≡ Take t q k′) where
+  module _ (t q u k′ : ℕ) (o : r ≡ Take t q u k′) where
     pub take-low : t < 4
-    take-low = it-low all start n hs (lanesIn b f rs ns ts ls gs) k p e m (w .sweeping) r i t q k′ o
+    take-low = it-low all start n hs (lanesIn b f rs ns ts ls gs) k p e m (w .sweeping) r i t q u k′ o
 
-    module _ (n₀ : ℕ) (t₀ : tables.Track) (l₀ : tabled.Lane) (g₀ : ran.Lane) (h : Head) where
+    pub take-inside : (q ≤ e) × (u ≤ e)
+    take-inside = it-inside all start n hs (lanesIn b f rs ns ts ls gs) k p e m (w .sweeping) r i t q u k′ o
+
+    module _ (n₀ : ℕ) (t₀ : tables.Track) (l₀ : tabled.Lane) (g₀ : ran.Lane) (q′ : ℕ) (h : Head) where
       ins : t < length ns
       ins = omega (arith, take-low, w .numbers-four)
 
@@ -181,35 +187,35 @@ module _ (all : List Span) (start : List Track) (n : ℕ) (b : Bool) (f : List �
       igs : t < length gs
       igs = omega (arith, take-low, w .runs-four)
 
-      -- a lane gave the next sample: what holds after it, and that less is to be done
-      given : (x : Track) (ys : List Track) → set (lanesIn b f rs ns ts ls gs) t x ≡ ys → Known h x (laneAt b f rs n₀ t₀ l₀ g₀ no-track ns ts ls gs t)
-          → Sweeping all start n (set hs t h) ys k′ q e m × (weight n k′ (set hs t h) ys < weight n k hs (lanesIn b f rs ns ts ls gs))
+      -- a lane went as far as it could: what holds after it, and that less is to be done
+      given : (x : Track) (ys : List Track) → set (lanesIn b f rs ns ts ls gs) t x ≡ ys → Passed u e q (laneAt b f rs n₀ t₀ l₀ g₀ no-track ns ts ls gs t) q′ h x
+          → Sweeping all start n (set hs t h) ys k′ q′ e m × (weight n k′ (set hs t h) ys < weight n k hs (lanesIn b f rs ns ts ls gs))
       given x ys s g =
-          subst (λ (z : List Track). Sweeping all start n (set hs t h) z k′ q e m × (weight n k′ (set hs t h) z < weight n k hs (lanesIn b f rs ns ts ls gs))) s
-          (at-take all start n hs (lanesIn b f rs ns ts ls gs) k p e m (w .sweeping) r i t q k′ o no-track h x
-          (subst (λ (z : Track). Known h x z) (sym (lane-at b f rs n₀ t₀ l₀ g₀ no-track ns ts ls gs t ins its ils igs)) g))
+          subst (λ (z : List Track). Sweeping all start n (set hs t h) z k′ q′ e m × (weight n k′ (set hs t h) z < weight n k hs (lanesIn b f rs ns ts ls gs))) s
+          (at-take all start n hs (lanesIn b f rs ns ts ls gs) k p e m (w .sweeping) r i t q u k′ o no-track q′ h x
+          (subst (λ (z : Track). Passed u e q z q′ h x) (sym (lane-at b f rs n₀ t₀ l₀ g₀ no-track ns ts ls gs t ins its ils igs)) g))
 
-    module _ (h : Head) where
+    module _ (q′ : ℕ) (h : Head) where
       pub run-gives : (n₀ : ℕ) (g₀ : ran.Lane) → b ≡ true → (g : ran.Lane)
-          → Known h (track (getD ns t n₀) true (fitting (run.left f rs (getD ns t n₀) g))) (track (getD ns t n₀) true (fitting (run.left f rs (getD ns t n₀) (getD gs t g₀))))
-          → Walking all start n b f rs ns ts (set hs t h) ls (set gs t g) k′ q e m
+          → Passed u e q (track (getD ns t n₀) true (fitting (run.left f rs (getD ns t n₀) (getD gs t g₀)))) q′ h (track (getD ns t n₀) true (fitting (run.left f rs (getD ns t n₀) g)))
+          → Walking all start n b f rs ns ts (set hs t h) ls (set gs t g) k′ q′ e m
           × (weight n k′ (set hs t h) (lanesIn b f rs ns ts ls (set gs t g)) < weight n k hs (lanesIn b f rs ns ts ls gs))
-      run-gives n₀ g₀ z g u =
-          let v = given n₀ no-tables table.fresh g₀ h (laneOf b f rs (getD ns t n₀) (getD ts t no-tables) (getD ls t table.fresh) g) (lanesIn b f rs ns ts ls (set gs t g))
-          (set-run b f rs n₀ no-tables table.fresh g₀ no-track g ns ts ls gs t (ins n₀ no-tables table.fresh g₀ h) (its n₀ no-tables table.fresh g₀ h) (ils n₀ no-tables table.fresh g₀ h) (igs n₀ no-tables table.fresh g₀ h))
-          (known-run f rs h (getD ns t n₀) (getD ts t no-tables) b (getD ls t table.fresh) (getD gs t g₀) g z u) in (
+      run-gives n₀ g₀ z g y =
+          let v = given n₀ no-tables table.fresh g₀ q′ h (laneOf b f rs (getD ns t n₀) (getD ts t no-tables) (getD ls t table.fresh) g) (lanesIn b f rs ns ts ls (set gs t g))
+          (set-run b f rs n₀ no-tables table.fresh g₀ no-track g ns ts ls gs t (ins n₀ no-tables table.fresh g₀ q′ h) (its n₀ no-tables table.fresh g₀ q′ h) (ils n₀ no-tables table.fresh g₀ q′ h) (igs n₀ no-tables table.fresh g₀ q′ h))
+          (passed-run f rs u e q q′ h (getD ns t n₀) (getD ts t no-tables) b (getD ls t table.fresh) (getD gs t g₀) g z y) in (
             record { sweeping = v .0; numbers-four = w .numbers-four; tracks-four = w .tracks-four; tables-four = w .tables-four; runs-four = length-set gs t g ∙ w .runs-four },
             v .1,
           )
 
       pub table-gives : (n₀ : ℕ) (t₀ : tables.Track) (l₀ : tabled.Lane) → b ≡ false → (l : tabled.Lane)
-          → Known h (track (getD ns t n₀) true (fitting (table.left f (getD ts t t₀) l))) (track (getD ns t n₀) true (fitting (table.left f (getD ts t t₀) (getD ls t l₀))))
-          → Walking all start n b f rs ns ts (set hs t h) (set ls t l) gs k′ q e m
+          → Passed u e q (track (getD ns t n₀) true (fitting (table.left f (getD ts t t₀) (getD ls t l₀)))) q′ h (track (getD ns t n₀) true (fitting (table.left f (getD ts t t₀) l)))
+          → Walking all start n b f rs ns ts (set hs t h) (set ls t l) gs k′ q′ e m
           × (weight n k′ (set hs t h) (lanesIn b f rs ns ts (set ls t l) gs) < weight n k hs (lanesIn b f rs ns ts ls gs))
-      table-gives n₀ t₀ l₀ z l u =
-          let v = given n₀ t₀ l₀ run.fresh h (laneOf b f rs (getD ns t n₀) (getD ts t t₀) l (getD gs t run.fresh)) (lanesIn b f rs ns ts (set ls t l) gs)
-          (set-table b f rs n₀ t₀ l₀ run.fresh no-track l ns ts ls gs t (ins n₀ t₀ l₀ run.fresh h) (its n₀ t₀ l₀ run.fresh h) (ils n₀ t₀ l₀ run.fresh h) (igs n₀ t₀ l₀ run.fresh h))
-          (known-table f rs h (getD ns t n₀) (getD ts t t₀) b (getD ls t l₀) l (getD gs t run.fresh) z u) in (
+      table-gives n₀ t₀ l₀ z l y =
+          let v = given n₀ t₀ l₀ run.fresh q′ h (laneOf b f rs (getD ns t n₀) (getD ts t t₀) l (getD gs t run.fresh)) (lanesIn b f rs ns ts (set ls t l) gs)
+          (set-table b f rs n₀ t₀ l₀ run.fresh no-track l ns ts ls gs t (ins n₀ t₀ l₀ run.fresh q′ h) (its n₀ t₀ l₀ run.fresh q′ h) (ils n₀ t₀ l₀ run.fresh q′ h) (igs n₀ t₀ l₀ run.fresh q′ h))
+          (passed-table f rs u e q q′ h (getD ns t n₀) (getD ts t t₀) b (getD ls t l₀) l (getD gs t run.fresh) z y) in (
             record { sweeping = v .0; numbers-four = w .numbers-four; tracks-four = w .tracks-four; tables-four = length-set ls t l ∙ w .tables-four; runs-four = w .runs-four },
             v .1,
           )

@@ -85,26 +85,66 @@ abbrev pub lookAt : Seen → ℕ → ℕ → List Head → Seen
 lookAt l t p [] = l
 lookAt l t p (h ∷ hs) = lookAt (when (h .live) (seeAt l t p (h .offset)) l) (suc t) p hs
 
+-- HOW FAR ONE TRACK GOES
+
+-- the bound b, or the start of track i's next sample where that is nearer; t's own is no bound
+unfoldable pub nearerAt : ℕ → ℕ → ℕ → Head → ℕ
+nearerAt b i t h = when (h .live) (when (eqb i t) b (when (ltb (h .offset) b) (h .offset) b)) b
+
+-- and those of all tracks from i on
+abbrev pub untilIn : ℕ → ℕ → ℕ → List Head → ℕ
+untilIn b i t [] = b
+untilIn b i t (h ∷ hs) = untilIn (nearerAt b i t h) (suc i) t hs
+
+-- a track's next sample, if it has one, starts at b or later
+abbrev pub Later : ℕ → Track → Type 0
+Later b (track n a []) = Unit {0}
+Later b (track n a (s ∷ l)) = b ≤ s .offset
+
+-- so does that of every track but t, where they are counted from i
+abbrev pub Beyond : ℕ → ℕ → ℕ → List Track → Type 0
+Beyond b i t [] = Unit {0}
+Beyond b i t (x ∷ ts) = ((i ≡ t → ⊥) → Later b x) × Beyond b (suc i) t ts
+
+-- samples of the track y are taken one after the other from p to q, and z is left of it
+pub record Passing (b e p : ℕ) (y : Track) (q : ℕ) (z : Track) : Type 0 where
+  pub stays : q ≤ e
+  pub fewer : length (samplesOf z) ≤ length (samplesOf y)
+  pub goes : (all m : List Span) (ts : List Track) (t : ℕ) (d : Track) → t < length ts → getD ts t d ≡ y → Beyond b 0 t ts
+      → sweepFrom all (span p e ∷ m) ts ≡ sweepFrom all (span q e ∷ m) (set ts t z)
+
+-- then h is its next sample, and x has the others
+pub record Passed (b e p : ℕ) (y : Track) (q : ℕ) (h : Head) (x : Track) : Type 0 where
+  pub rest : Track
+  pub passing : Passing b e p y q rest
+  pub known : Known h x rest
+
 -- TURNS
 
 -- how much is to be done
 abbrev pub weight : ℕ → ℕ → List Head → List Track → ℕ
 weight n k hs xs = many hs xs + (n - k)
 
--- the sample of track t is taken, up to q, and k′ tracks are filled as soon as the lane of t has given the next
-pub record Takes (all : List Span) (c : Span) (m : List Span) (k : ℕ) (hs : List Head) (xs ts : List Track) (t q k′ : ℕ) : Type 0 where
+-- the sample of track t is taken, up to q; below b no other track has one. k′ tracks are filled as soon as the lane of t
+-- has given its next sample, whichever that is
+pub record Takes (all : List Span) (c : Span) (m : List Span) (k : ℕ) (hs : List Head) (xs ts : List Track) (t q b k′ : ℕ) : Type 0 where
   pub low : t < 4
   pub stays : q ≤ c .to
+  pub bounded : b ≤ c .to
   pub after : List Track
   pub as-many : length after ≡ length ts
+  pub within : t < length after
   pub goes : sweepFrom all (c ∷ m) ts ≡ sweepFrom all (span q (c .to) ∷ m) after
-  pub refilled : (d : Track) (h : Head) (x : Track) → Known h x (getD xs t d) → State k′ (set hs t h) (set xs t x) after
-  pub less : (d : Track) (h : Head) (x : Track) → Known h x (getD xs t d) → weight (length ts) k′ (set hs t h) (set xs t x) < weight (length ts) k hs xs
+  pub lane : (d : Track) → getD after t d ≡ getD xs t d
+  pub beyond : Beyond b 0 t after
+  pub refilled : (h : Head) (x z : Track) → Known h x z → State k′ (set hs t h) (set xs t x) (set after t z)
+  pub less : (d : Track) (h : Head) (x z : Track) → Known h x z → length (samplesOf z) ≤ length (samplesOf (getD xs t d))
+      → weight (length ts) k′ (set hs t h) (set xs t x) < weight (length ts) k hs xs
 
 -- what an answer says of the tracks ts, where c is left of the payload and m are those after it
 abbrev pub TurnBy : List Span → Span → List Span → ℕ → List Head → List Track → List Track → Turn → Type 0
 TurnBy all c m k hs xs ts Skip = (length ts ≤ k) × (c .from ≡ c .to)
-TurnBy all c m k hs xs ts (Take t q k′) = Takes all c m k hs xs ts t q k′
+TurnBy all c m k hs xs ts (Take t q b k′) = Takes all c m k hs xs ts t q b k′
 TurnBy all c m k hs xs ts (Stray h) = sweepFrom all (c ∷ m) ts ≡ strayOf all h
 TurnBy all c m k hs xs ts (Stop f) = sweepFrom all (c ∷ m) ts ≡ found f
 

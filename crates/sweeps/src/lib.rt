@@ -12,7 +12,7 @@ ghost use Rattle.payloads.specs.Payloads.{payloadsFrom};
 ghost use Rattle.lanes.specs.Lane as tabled;
 ghost use Rattle.fragments.specs.Lane as fragmented;
 ghost use Rattle.sweeps.specs.Tracks.{fitting, tracksIn};
-ghost use Rattle.sweeps.specs.Heads.{claimed, strayOf, leftIn, seeAt, lookAt, nothing, Known, TurnIs, ahead};
+ghost use Rattle.sweeps.specs.Heads.{claimed, strayOf, leftIn, seeAt, lookAt, nothing, nearerAt, untilIn, Passed, TurnIs, ahead};
 use payloads::Payload;
 use verdicts::Asked;
 use verdicts::Finding;
@@ -88,6 +88,38 @@ fn look(p: u64, heads: [Head; 4]) -> Seen
     l
 }
 
+// The bound b, or the start of track i's next sample where that is nearer; t's own is no bound.
+fn nearer(b: u64, i: usize, t: usize, h: Head) -> u64
+    ensures { λ r. ⌜ r ≡ nearerAt b i t h ⌝ }
+{
+    if h.live {
+        if i == t {
+            return b;
+        }
+        let o = h.offset;
+        if o < b {
+            return o;
+        }
+        return b;
+    }
+    b
+}
+
+// Up to where only track t can have a sample: the least start of the others' next samples, and at most the payload's
+// end.
+fn until(heads: [Head; 4], t: usize, end: u64) -> u64
+    ensures { λ r. ⌜ r ≡ untilIn end 0 t heads ⌝ }
+{
+    let mut b = end;
+    let mut other: usize = 0;
+    while other < 4 {
+        let h = heads[other];
+        b = nearer(b, other, t, h);
+        other += 1;
+    }
+    b
+}
+
 // A finding that names a track's next sample, and where it starts.
 fn claim(number: u32, h: Head) -> Finding
     ensures { λ r. ⌜ r ≡ claimed number h ⌝ }
@@ -108,6 +140,7 @@ pub(crate) enum Turn {
     Take {
         track: usize,
         to: u64,
+        until: u64,
         filled: usize,
     },
     Stray(Head),
@@ -124,6 +157,7 @@ fn decide(heads: [Head; 4], filled: usize, count: usize, p: u64, end: u64) -> Tu
         return Turn::Take {
             track: filled,
             to: p,
+            until: 0,
             filled: filled + 1,
         };
     }
@@ -157,6 +191,7 @@ fn decide(heads: [Head; 4], filled: usize, count: usize, p: u64, end: u64) -> Tu
         return Turn::Take {
             track: first,
             to: p + size,
+            until: until(heads, first, end),
             filled: filled,
         };
     }
@@ -220,72 +255,197 @@ fn dead(track: u32) -> Head
     }
 }
 
-// A track's next sample, and its lane after that, by its tables.
+// A lane's next sample.
+fn met(track: u32, sample: samples::Sample) -> Head
+    ensures { λ r. ⌜ r ≡ ahead true track (sample .number) (sample .offset) (sample .size) ⌝ }
+{
+    Head {
+        live: true,
+        track: track,
+        number: sample.number,
+        offset: sample.offset,
+        size: sample.size,
+    }
+}
+
+// A lane field by field: a copy of the whole would carry the gaps between its fields along, which costs more than the
+// fields.
+fn cursor(c: lanes::Runs) -> lanes::Runs
+    ensures { λ r. ⌜ r ≡ c ⌝ }
+{
+    lanes::Runs {
+        next: c.next,
+        left: c.left,
+        value: c.value,
+    }
+}
+
+fn whole(l: lanes::Lane) -> lanes::Lane
+    ensures { λ r. ⌜ r ≡ l ⌝ }
+{
+    let times = l.times;
+    let shifts = l.shifts;
+    let syncs = l.syncs;
+    let place = l.place;
+    let groups = place.groups;
+    lanes::Lane {
+        done: l.done,
+        time: l.time,
+        times: cursor(times),
+        shifts: cursor(shifts),
+        syncs: lanes::Marks {
+            next: syncs.next,
+            number: syncs.number,
+        },
+        place: lanes::Place {
+            left: place.left,
+            at: place.at,
+            chunk: place.chunk,
+            groups: cursor(groups),
+        },
+    }
+}
+
+// How far a track's samples were taken, its next sample, and its lane after that, by its tables.
 struct Tabled {
+    pub at: u64,
     pub head: Head,
     pub lane: lanes::Lane,
 }
 
-// A sample that does not fit ends its track: it is refused before any sweep (9).
-fn by_tables(file: &[u8], number: u32, t: tables::Track, lane: lanes::Lane) -> Tabled
-    ensures { λ r. ⌜ Known (r .head) (track number true (fitting (tabled.left (now (file .entry)) t (r .lane)))) (track number true (fitting (tabled.left (now (file .entry)) t lane))) ⌝ }
+// From p on, as long as the lane's samples follow one another and no other track can have one: below `until`. A sample
+// that does not fit ends its track: it is refused before any sweep (9).
+fn by_tables(
+    file: &[u8],
+    number: u32,
+    t: tables::Track,
+    lane: lanes::Lane,
+    p: u64,
+    until: u64,
+    end: u64,
+) -> Tabled
+    requires { ⌜ (p ≤ end) × (until ≤ end) ⌝ }
+    ensures { λ r. ⌜ Passed until end p (track number true (fitting (tabled.left (now (file .entry)) t lane))) (r .at) (r .head) (track number true (fitting (tabled.left (now (file .entry)) t (r .lane)))) ⌝ }
 {
-    match lanes::next(file, t, lane) {
-        lanes::Taken::End => Tabled {
-            head: dead(number),
-            lane: lane,
-        },
-        lanes::Taken::Over => Tabled {
-            head: dead(number),
-            lane: lane,
-        },
-        lanes::Taken::One {
-            sample,
-            lane: after,
-        } => Tabled {
-            head: Head {
-                live: true,
-                track: number,
-                number: sample.number,
-                offset: sample.offset,
-                size: sample.size,
-            },
-            lane: after,
-        },
+    let mut rest = whole(lane);
+    let mut at = p;
+    loop {
+        match lanes::next(file, t, rest) {
+            lanes::Taken::End => {
+                return Tabled {
+                    at: at,
+                    head: dead(number),
+                    lane: rest,
+                };
+            }
+            lanes::Taken::Over => {
+                return Tabled {
+                    at: at,
+                    head: dead(number),
+                    lane: rest,
+                };
+            }
+            lanes::Taken::One {
+                sample,
+                lane: after,
+            } => {
+                let size = sample.size as u64;
+                if sample.offset != at {
+                    return Tabled {
+                        at: at,
+                        head: met(number, sample),
+                        lane: after,
+                    };
+                }
+                if until <= at {
+                    return Tabled {
+                        at: at,
+                        head: met(number, sample),
+                        lane: after,
+                    };
+                }
+                if end - at < size {
+                    return Tabled {
+                        at: at,
+                        head: met(number, sample),
+                        lane: after,
+                    };
+                }
+                at += size;
+                rest = after;
+            }
+        }
     }
 }
 
 // The same by its runs.
 struct Ran {
+    pub at: u64,
     pub head: Head,
     pub lane: fragments::Lane,
 }
 
-fn by_runs(file: &[u8], table: &[u64], rows: usize, number: u32, lane: fragments::Lane) -> Ran
-    ensures { λ r. ⌜ Known (r .head) (track number true (fitting (fragmented.left (now (file .entry)) (rowsOf (now (table .entry)) rows) number (r .lane)))) (track number true (fitting (fragmented.left (now (file .entry)) (rowsOf (now (table .entry)) rows) number lane))) ⌝ }
+fn by_runs(
+    file: &[u8],
+    table: &[u64],
+    rows: usize,
+    number: u32,
+    lane: fragments::Lane,
+    p: u64,
+    until: u64,
+    end: u64,
+) -> Ran
+    requires { ⌜ (p ≤ end) × (until ≤ end) ⌝ }
+    ensures { λ r. ⌜ Passed until end p (track number true (fitting (fragmented.left (now (file .entry)) (rowsOf (now (table .entry)) rows) number lane))) (r .at) (r .head) (track number true (fitting (fragmented.left (now (file .entry)) (rowsOf (now (table .entry)) rows) number (r .lane)))) ⌝ }
 {
-    match fragments::next(file, table, rows, number, lane) {
-        fragments::Taken::End => Ran {
-            head: dead(number),
-            lane: lane,
-        },
-        fragments::Taken::Over => Ran {
-            head: dead(number),
-            lane: lane,
-        },
-        fragments::Taken::One {
-            sample,
-            lane: after,
-        } => Ran {
-            head: Head {
-                live: true,
-                track: number,
-                number: sample.number,
-                offset: sample.offset,
-                size: sample.size,
-            },
-            lane: after,
-        },
+    let mut rest = lane;
+    let mut at = p;
+    loop {
+        match fragments::next(file, table, rows, number, rest) {
+            fragments::Taken::End => {
+                return Ran {
+                    at: at,
+                    head: dead(number),
+                    lane: rest,
+                };
+            }
+            fragments::Taken::Over => {
+                return Ran {
+                    at: at,
+                    head: dead(number),
+                    lane: rest,
+                };
+            }
+            fragments::Taken::One {
+                sample,
+                lane: after,
+            } => {
+                let size = sample.size as u64;
+                if sample.offset != at {
+                    return Ran {
+                        at: at,
+                        head: met(number, sample),
+                        lane: after,
+                    };
+                }
+                if until <= at {
+                    return Ran {
+                        at: at,
+                        head: met(number, sample),
+                        lane: after,
+                    };
+                }
+                if end - at < size {
+                    return Ran {
+                        at: at,
+                        head: met(number, sample),
+                        lane: after,
+                    };
+                }
+                at += size;
+                rest = after;
+            }
+        }
     }
 }
 
@@ -352,14 +512,15 @@ pub fn sweep(
             Turn::Take {
                 track: t,
                 to,
+                until,
                 filled: more,
             } => {
-                p = to;
                 filled = more;
                 let number = numbers[t];
                 if fragmented {
                     let lane = by_run[t];
-                    let a = by_runs(file, table, rows, number, lane);
+                    let a = by_runs(file, table, rows, number, lane, to, until, end);
+                    p = a.at;
                     let h = a.head;
                     let further = a.lane;
                     heads[t] = h;
@@ -367,7 +528,8 @@ pub fn sweep(
                 } else {
                     let track = tracks[t];
                     let lane = by_table[t];
-                    let a = by_tables(file, number, track, lane);
+                    let a = by_tables(file, number, track, lane, to, until, end);
+                    p = a.at;
                     let h = a.head;
                     let further = a.lane;
                     heads[t] = h;

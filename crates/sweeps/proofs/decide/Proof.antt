@@ -57,8 +57,11 @@ sub-if6 c = search needs
 add-t33 : tie.Need-add-t33
 add-t33 c = search needs
 
+until-requires : tie.Need-until-requires
+until-requires c κs = search needs
+
 returns-6 : tie.Need-returns-6
-returns-6 c = λ all m xs ts len st. let four : length (c .before .before .before .before .before .before .before .before .before .args .t1) ≡ 4 = omega arith in takes (c .before .before .before .before .before .before .before .before .before .args .t1) (c .before .before .before .before .before .before .before .before .before .args .filled) (c .before .before .before .before .before .before .before .before .before .args .count) (c .before .before .before .before .before .before .before .before .before .args .p) (c .before .before .before .before .before .before .before .before .before .args .end) four (c .before .before .before .before .before .before .before .before .before .pre) all m xs ts len st (c .before .before .before .before .before .before .before .before .if1 .left) (c .before .before .before .before .before .before .before .if2 .left) _ (c .before .before .before .before .before .before .look .ensures) (c .before .before .before .before .before .if3 .left) (c .before .before .before .before .if4 .left) (c .before .before .before .if5 .left) _ (omega (arith, c .before .before .before .before .before .before .before .before .before .pre, c .if6 .taken))
+returns-6 c = λ all m xs ts len st. let four : length (c .before .before .before .before .before .before .before .before .before .before .args .t1) ≡ 4 = omega arith in takes (c .before .before .before .before .before .before .before .before .before .before .args .t1) (c .before .before .before .before .before .before .before .before .before .before .args .filled) (c .before .before .before .before .before .before .before .before .before .before .args .count) (c .before .before .before .before .before .before .before .before .before .before .args .p) (c .before .before .before .before .before .before .before .before .before .before .args .end) four (c .before .before .before .before .before .before .before .before .before .before .pre) all m xs ts len st (c .before .before .before .before .before .before .before .before .before .if1 .left) (c .before .before .before .before .before .before .before .before .if2 .left) _ (c .before .before .before .before .before .before .before .look .ensures) (c .before .before .before .before .before .before .if3 .left) (c .before .before .before .before .before .if4 .left) (c .before .before .before .before .if5 .left) _ _ (omega (arith, c .before .before .before .before .before .before .before .before .before .before .pre, c .before .if6 .taken)) (c .until .ensures)
 
 claim-requires-2 : tie.Need-claim-requires-2
 claim-requires-2 c κs = search needs
@@ -87,6 +90,7 @@ decide-spec =
     cast-size
     sub-if6
     add-t33
+    until-requires
     returns-6
     claim-requires-2
     returns-7)

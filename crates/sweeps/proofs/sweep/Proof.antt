@@ -11,7 +11,7 @@ use Rattle.payloads.specs.Payloads.{payloadsFrom}
 use Rattle.sweeps.specs.Tracks.{tracksIn}
 use Rattle.sweeps.specs.Heads.{weight}
 use Rattle.sweeps.proofs.Lanes.{lanesIn}
-use Rattle.sweeps.proofs.Walk.{Walking, begins, no-more, one-more, stops, strays, ends, moves, take-low, run-gives, table-gives}
+use Rattle.sweeps.proofs.Walk.{Walking, begins, no-more, one-more, stops, strays, ends, moves, take-low, take-inside, run-gives, table-gives}
 use Rattle.sweeps.specs.declared.Head.{Head}
 use Rattle.sweeps.proofs.sweep.Statement.{statement}
 use Rattle.sweeps.proofs.sweep.Tie as tie
@@ -83,70 +83,70 @@ enum-known-t : tie.Need-enum-known-t Inv-loop μ-loop
 enum-known-t c = search needs
 
 mul-number : tie.Need-mul-number Inv-loop μ-loop
-mul-number c = omega (arith, take-low _ _ _ _ _ _ _ _ _ _ _ _ _ _ _ (c .before .before .before .before .loop .inv) _ (c .before .before .before .decide .ensures) _ _ _ (c .before .t .given .1))
+mul-number c = omega (arith, take-low _ _ _ _ _ _ _ _ _ _ _ _ _ _ _ (c .before .before .before .before .loop .inv) _ (c .before .before .before .decide .ensures) _ _ _ _ (c .before .t .given .1))
 
 array-read-number : tie.Need-array-read-number Inv-loop μ-loop
-array-read-number c = take-low _ _ _ _ _ _ _ _ _ _ _ _ _ _ _ (c .before .before .before .before .loop .inv) _ (c .before .before .before .decide .ensures) _ _ _ (c .before .t .given .1)
+array-read-number c = take-low _ _ _ _ _ _ _ _ _ _ _ _ _ _ _ (c .before .before .before .before .loop .inv) _ (c .before .before .before .decide .ensures) _ _ _ _ (c .before .t .given .1)
 
 mul-lane : tie.Need-mul-lane Inv-loop μ-loop
-mul-lane c = omega (arith, take-low _ _ _ _ _ _ _ _ _ _ _ _ _ _ _ (c .before .before .before .before .before .loop .inv) _ (c .before .before .before .before .decide .ensures) _ _ _ (c .before .before .t .given .1))
+mul-lane c = omega (arith, take-low _ _ _ _ _ _ _ _ _ _ _ _ _ _ _ (c .before .before .before .before .before .loop .inv) _ (c .before .before .before .before .decide .ensures) _ _ _ _ (c .before .before .t .given .1))
 
 array-copy-out-lane : tie.Need-array-copy-out-lane Inv-loop μ-loop
-array-copy-out-lane c = take-low _ _ _ _ _ _ _ _ _ _ _ _ _ _ _ (c .before .before .before .before .before .loop .inv) _ (c .before .before .before .before .decide .ensures) _ _ _ (c .before .before .t .given .1)
+array-copy-out-lane c = take-low _ _ _ _ _ _ _ _ _ _ _ _ _ _ _ (c .before .before .before .before .before .loop .inv) _ (c .before .before .before .before .decide .ensures) _ _ _ _ (c .before .before .t .given .1)
 
 by-runs-requires : tie.Need-by-runs-requires Inv-loop μ-loop
-by-runs-requires c κs = search needs
+by-runs-requires c κs = take-inside _ _ _ _ _ _ _ _ _ _ _ _ _ _ _ (c .before .before .before .before .before .before .loop .inv) _ (c .before .before .before .before .before .decide .ensures) _ _ _ _ (c .before .before .before .t .given .1)
 
 mul-heads : tie.Need-mul-heads Inv-loop μ-loop
-mul-heads c = omega (arith, take-low _ _ _ _ _ _ _ _ _ _ _ _ _ _ _ (c .before .before .before .before .before .before .before .before .before .loop .inv) _ (c .before .before .before .before .before .before .before .before .decide .ensures) _ _ _ (c .before .before .before .before .before .before .t .given .1))
+mul-heads c = omega (arith, take-low _ _ _ _ _ _ _ _ _ _ _ _ _ _ _ (c .before .before .before .before .before .before .before .before .before .loop .inv) _ (c .before .before .before .before .before .before .before .before .decide .ensures) _ _ _ _ (c .before .before .before .before .before .before .t .given .1))
 
 array-set-from-heads : tie.Need-array-set-from-heads Inv-loop μ-loop
-array-set-from-heads c = take-low _ _ _ _ _ _ _ _ _ _ _ _ _ _ _ (c .before .before .before .before .before .before .before .before .before .loop .inv) _ (c .before .before .before .before .before .before .before .before .decide .ensures) _ _ _ (c .before .before .before .before .before .before .t .given .1)
+array-set-from-heads c = take-low _ _ _ _ _ _ _ _ _ _ _ _ _ _ _ (c .before .before .before .before .before .before .before .before .before .loop .inv) _ (c .before .before .before .before .before .before .before .before .decide .ensures) _ _ _ _ (c .before .before .before .before .before .before .t .given .1)
 
 mul-by-run : tie.Need-mul-by-run Inv-loop μ-loop
-mul-by-run c = omega (arith, take-low _ _ _ _ _ _ _ _ _ _ _ _ _ _ _ (c .before .before .before .before .before .before .before .before .before .loop .inv) _ (c .before .before .before .before .before .before .before .before .decide .ensures) _ _ _ (c .before .before .before .before .before .before .t .given .1))
+mul-by-run c = omega (arith, take-low _ _ _ _ _ _ _ _ _ _ _ _ _ _ _ (c .before .before .before .before .before .before .before .before .before .loop .inv) _ (c .before .before .before .before .before .before .before .before .decide .ensures) _ _ _ _ (c .before .before .before .before .before .before .t .given .1))
 
 array-set-from-by-run : tie.Need-array-set-from-by-run Inv-loop μ-loop
-array-set-from-by-run c = take-low _ _ _ _ _ _ _ _ _ _ _ _ _ _ _ (c .before .before .before .before .before .before .before .before .before .loop .inv) _ (c .before .before .before .before .before .before .before .before .decide .ensures) _ _ _ (c .before .before .before .before .before .before .t .given .1)
+array-set-from-by-run c = take-low _ _ _ _ _ _ _ _ _ _ _ _ _ _ _ (c .before .before .before .before .before .before .before .before .before .loop .inv) _ (c .before .before .before .before .before .before .before .before .decide .ensures) _ _ _ _ (c .before .before .before .before .before .before .t .given .1)
 
 loop-less-2 : tie.Need-loop-less-2 Inv-loop μ-loop
-loop-less-2 c = omega (arith, (run-gives _ _ _ _ _ _ _ _ _ _ _ _ _ _ _ (c .before .before .before .before .before .before .before .before .before .loop .inv) _ (c .before .before .before .before .before .before .before .before .decide .ensures) _ _ _ (c .before .before .before .before .before .before .t .given .1) _ _ _ (c .before .before .before .before .if1 .taken) _ (c .before .before .by-runs .ensures)) .1)
+loop-less-2 c = omega (arith, (run-gives _ _ _ _ _ _ _ _ _ _ _ _ _ _ _ (c .before .before .before .before .before .before .before .before .before .loop .inv) _ (c .before .before .before .before .before .before .before .before .decide .ensures) _ _ _ _ (c .before .before .before .before .before .before .t .given .1) _ _ _ _ (c .before .before .before .before .if1 .taken) _ (c .before .before .by-runs .ensures)) .1)
 
 loop-again-2 : tie.Need-loop-again-2 Inv-loop μ-loop
-loop-again-2 c = (run-gives _ _ _ _ _ _ _ _ _ _ _ _ _ _ _ (c .before .before .before .before .before .before .before .before .before .loop .inv) _ (c .before .before .before .before .before .before .before .before .decide .ensures) _ _ _ (c .before .before .before .before .before .before .t .given .1) _ _ _ (c .before .before .before .before .if1 .taken) _ (c .before .before .by-runs .ensures)) .0
+loop-again-2 c = (run-gives _ _ _ _ _ _ _ _ _ _ _ _ _ _ _ (c .before .before .before .before .before .before .before .before .before .loop .inv) _ (c .before .before .before .before .before .before .before .before .decide .ensures) _ _ _ _ (c .before .before .before .before .before .before .t .given .1) _ _ _ _ (c .before .before .before .before .if1 .taken) _ (c .before .before .by-runs .ensures)) .0
 
 mul-track : tie.Need-mul-track Inv-loop μ-loop
-mul-track c = omega (arith, take-low _ _ _ _ _ _ _ _ _ _ _ _ _ _ _ (c .before .before .before .before .before .loop .inv) _ (c .before .before .before .before .decide .ensures) _ _ _ (c .before .before .t .given .1))
+mul-track c = omega (arith, take-low _ _ _ _ _ _ _ _ _ _ _ _ _ _ _ (c .before .before .before .before .before .loop .inv) _ (c .before .before .before .before .decide .ensures) _ _ _ _ (c .before .before .t .given .1))
 
 array-copy-out-track : tie.Need-array-copy-out-track Inv-loop μ-loop
-array-copy-out-track c = take-low _ _ _ _ _ _ _ _ _ _ _ _ _ _ _ (c .before .before .before .before .before .loop .inv) _ (c .before .before .before .before .decide .ensures) _ _ _ (c .before .before .t .given .1)
+array-copy-out-track c = take-low _ _ _ _ _ _ _ _ _ _ _ _ _ _ _ (c .before .before .before .before .before .loop .inv) _ (c .before .before .before .before .decide .ensures) _ _ _ _ (c .before .before .t .given .1)
 
 mul-lane-2 : tie.Need-mul-lane-2 Inv-loop μ-loop
-mul-lane-2 c = omega (arith, take-low _ _ _ _ _ _ _ _ _ _ _ _ _ _ _ (c .before .before .before .before .before .before .loop .inv) _ (c .before .before .before .before .before .decide .ensures) _ _ _ (c .before .before .before .t .given .1))
+mul-lane-2 c = omega (arith, take-low _ _ _ _ _ _ _ _ _ _ _ _ _ _ _ (c .before .before .before .before .before .before .loop .inv) _ (c .before .before .before .before .before .decide .ensures) _ _ _ _ (c .before .before .before .t .given .1))
 
 array-copy-out-lane-2 : tie.Need-array-copy-out-lane-2 Inv-loop μ-loop
-array-copy-out-lane-2 c = take-low _ _ _ _ _ _ _ _ _ _ _ _ _ _ _ (c .before .before .before .before .before .before .loop .inv) _ (c .before .before .before .before .before .decide .ensures) _ _ _ (c .before .before .before .t .given .1)
+array-copy-out-lane-2 c = take-low _ _ _ _ _ _ _ _ _ _ _ _ _ _ _ (c .before .before .before .before .before .before .loop .inv) _ (c .before .before .before .before .before .decide .ensures) _ _ _ _ (c .before .before .before .t .given .1)
 
 by-tables-requires : tie.Need-by-tables-requires Inv-loop μ-loop
-by-tables-requires c κs = search needs
+by-tables-requires c κs = take-inside _ _ _ _ _ _ _ _ _ _ _ _ _ _ _ (c .before .before .before .before .before .before .before .loop .inv) _ (c .before .before .before .before .before .before .decide .ensures) _ _ _ _ (c .before .before .before .before .t .given .1)
 
 mul-heads-2 : tie.Need-mul-heads-2 Inv-loop μ-loop
-mul-heads-2 c = omega (arith, take-low _ _ _ _ _ _ _ _ _ _ _ _ _ _ _ (c .before .before .before .before .before .before .before .before .before .before .loop .inv) _ (c .before .before .before .before .before .before .before .before .before .decide .ensures) _ _ _ (c .before .before .before .before .before .before .before .t .given .1))
+mul-heads-2 c = omega (arith, take-low _ _ _ _ _ _ _ _ _ _ _ _ _ _ _ (c .before .before .before .before .before .before .before .before .before .before .loop .inv) _ (c .before .before .before .before .before .before .before .before .before .decide .ensures) _ _ _ _ (c .before .before .before .before .before .before .before .t .given .1))
 
 array-set-from-heads-2 : tie.Need-array-set-from-heads-2 Inv-loop μ-loop
-array-set-from-heads-2 c = take-low _ _ _ _ _ _ _ _ _ _ _ _ _ _ _ (c .before .before .before .before .before .before .before .before .before .before .loop .inv) _ (c .before .before .before .before .before .before .before .before .before .decide .ensures) _ _ _ (c .before .before .before .before .before .before .before .t .given .1)
+array-set-from-heads-2 c = take-low _ _ _ _ _ _ _ _ _ _ _ _ _ _ _ (c .before .before .before .before .before .before .before .before .before .before .loop .inv) _ (c .before .before .before .before .before .before .before .before .before .decide .ensures) _ _ _ _ (c .before .before .before .before .before .before .before .t .given .1)
 
 mul-by-table : tie.Need-mul-by-table Inv-loop μ-loop
-mul-by-table c = omega (arith, take-low _ _ _ _ _ _ _ _ _ _ _ _ _ _ _ (c .before .before .before .before .before .before .before .before .before .before .loop .inv) _ (c .before .before .before .before .before .before .before .before .before .decide .ensures) _ _ _ (c .before .before .before .before .before .before .before .t .given .1))
+mul-by-table c = omega (arith, take-low _ _ _ _ _ _ _ _ _ _ _ _ _ _ _ (c .before .before .before .before .before .before .before .before .before .before .loop .inv) _ (c .before .before .before .before .before .before .before .before .before .decide .ensures) _ _ _ _ (c .before .before .before .before .before .before .before .t .given .1))
 
 array-set-from-by-table : tie.Need-array-set-from-by-table Inv-loop μ-loop
-array-set-from-by-table c = take-low _ _ _ _ _ _ _ _ _ _ _ _ _ _ _ (c .before .before .before .before .before .before .before .before .before .before .loop .inv) _ (c .before .before .before .before .before .before .before .before .before .decide .ensures) _ _ _ (c .before .before .before .before .before .before .before .t .given .1)
+array-set-from-by-table c = take-low _ _ _ _ _ _ _ _ _ _ _ _ _ _ _ (c .before .before .before .before .before .before .before .before .before .before .loop .inv) _ (c .before .before .before .before .before .before .before .before .before .decide .ensures) _ _ _ _ (c .before .before .before .before .before .before .before .t .given .1)
 
 loop-less-3 : tie.Need-loop-less-3 Inv-loop μ-loop
-loop-less-3 c = omega (arith, (table-gives _ _ _ _ _ _ _ _ _ _ _ _ _ _ _ (c .before .before .before .before .before .before .before .before .before .before .loop .inv) _ (c .before .before .before .before .before .before .before .before .before .decide .ensures) _ _ _ (c .before .before .before .before .before .before .before .t .given .1) _ _ _ _ (c .before .before .before .before .before .if1 .left) _ (c .before .before .by-tables .ensures)) .1)
+loop-less-3 c = omega (arith, (table-gives _ _ _ _ _ _ _ _ _ _ _ _ _ _ _ (c .before .before .before .before .before .before .before .before .before .before .loop .inv) _ (c .before .before .before .before .before .before .before .before .before .decide .ensures) _ _ _ _ (c .before .before .before .before .before .before .before .t .given .1) _ _ _ _ _ (c .before .before .before .before .before .if1 .left) _ (c .before .before .by-tables .ensures)) .1)
 
 loop-again-3 : tie.Need-loop-again-3 Inv-loop μ-loop
-loop-again-3 c = (table-gives _ _ _ _ _ _ _ _ _ _ _ _ _ _ _ (c .before .before .before .before .before .before .before .before .before .before .loop .inv) _ (c .before .before .before .before .before .before .before .before .before .decide .ensures) _ _ _ (c .before .before .before .before .before .before .before .t .given .1) _ _ _ _ (c .before .before .before .before .before .if1 .left) _ (c .before .before .by-tables .ensures)) .0
+loop-again-3 c = (table-gives _ _ _ _ _ _ _ _ _ _ _ _ _ _ _ (c .before .before .before .before .before .before .before .before .before .before .loop .inv) _ (c .before .before .before .before .before .before .before .before .before .decide .ensures) _ _ _ _ (c .before .before .before .before .before .before .before .t .given .1) _ _ _ _ _ (c .before .before .before .before .before .if1 .left) _ (c .before .before .by-tables .ensures)) .0
 
 pub sweep-spec : {M : Type 1} → statement M
 sweep-spec =
