@@ -1,3 +1,6 @@
 mod Recorded
 mod Gather
 mod Answers
+mod Computed
+mod Unique
+mod Vectors
