@@ -3,3 +3,6 @@ mod Gather
 mod Answers
 mod Times
 pub mod Clean
+mod Computed
+mod Unique
+mod Vectors

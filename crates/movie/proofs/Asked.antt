@@ -6,26 +6,24 @@ use Rattle.verdicts.specs.declared.Finding.{Finding}
 use Rattle.verdicts.specs.declared.Asked.{Asked}
 use Rattle.verdicts.specs.declared.Asked.the-variants as told
 
-findingOf : Asked → Answer
-findingOf told.Passes = passes
-findingOf (told.Found x) = found x
+-- the answer that is told so
+abbrev pub answerOf : Asked → Answer
+answerOf told.Passes = passes
+answerOf (told.Found x) = found x
 
 module _ (a : Answer) (r : Asked) (e : r ≡ asked a) where
-  back : findingOf r ≡ a
-  unfolding findingOf
-  back = ap findingOf e ∙ cases a
+  back : answerOf r ≡ a
+  back = ap answerOf e ∙ cases a
     where
-      cases : (a : Answer) → findingOf (asked a) ≡ a
+      cases : (a : Answer) → answerOf (asked a) ≡ a
       cases passes = refl
       cases (found x) = refl
 
   pub is-found : (x : Finding) → r ≡ told.Found x → a ≡ found x
-  unfolding findingOf
-  is-found x q = sym back ∙ ap findingOf q
+  is-found x q = sym back ∙ ap answerOf q
 
   pub is-passed : r ≡ told.Passes → a ≡ passes
-  unfolding findingOf
-  is-passed q = sym back ∙ ap findingOf q
+  is-passed q = sym back ∙ ap answerOf q
 
   pub first-stops : (l : List Answer) (x : Finding) → r ≡ told.Found x → told.Found x ≡ asked (firstFound (a ∷ l))
   first-stops l x q = sym (ap (λ (b : Answer). asked (firstFound (b ∷ l))) (is-found x q))

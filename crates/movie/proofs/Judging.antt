@@ -40,15 +40,7 @@ use Rattle.movie.specs.Movie.{Movie, movieOf, isFragmented, tracksBy, tr
 use Rattle.movie.specs.declared.Sum.{Sum}
 use Rattle.movie.specs.declared.Sum.the-variants.{Is, Over}
 use Rattle.movie.specs.Inside.{agreement, agreed, passAll, isOver, firstOf, samplesIn, breaks, lastOf, orAsked, toldOf, isSome, mediaOf}
-
--- BOOLEANS
-
-both : (a b : Bool) → a && b ≡ true → (a ≡ true) × (b ≡ true)
-both true b q = (refl, q)
-both false b q = let z : _≡_ {A = ℕ} 0 1 = cc in absurd (omega arith)
-
-either-false : (a b : Bool) → a ≡ true → b ≡ false → a && b ≡ false
-either-false a b p q = ap (λ (x : Bool). x && b) p ∙ q
+use Rattle.movie.proofs.Booleans.{both, not-true, not-false}
 
 -- TRACKS, by what the sweep and the questions have of them
 
@@ -94,9 +86,9 @@ or-asked : (a b : Answer) → orAsked (asked a) (asked b) ≡ asked (orElse a b)
 or-asked passes b = refl
 or-asked (found x) b = refl
 
-or-either : (a b c d : Answer) → orElse (orElse a b) (orElse c d) ≡ orElse a (orElse b (orElse c d))
-or-either passes b c d = refl
-or-either (found x) b c d = refl
+or-nested : (a b c d : Answer) → orElse (orElse a b) (orElse c d) ≡ orElse a (orElse b (orElse c d))
+or-nested passes b c d = refl
+or-nested (found x) b c d = refl
 
 told-verdict : (ts : List Track) (m : List Span) (a : Answer) → toldOf (asked a) (length ts) (total ts) (bytes m) ≡ audited (verdict ts m a)
 told-verdict ts m passes = refl
@@ -119,21 +111,12 @@ module _ (b : Bool) (f : List ℕ) (rs : List Run) (ns : List ℕ) (ts : List ta
   by-pass : (x : Bool) (k : ℕ) (a : Answer) → p ≡ when x (tell k a) pass.Over
       → (isOver p ≡ true → x ≡ false) × (isOver p ≡ false → (x ≡ true) × (firstOf p ≡ asked a) × (firstOf p ≡ told.Passes → samplesIn p ≡ k))
   unfolding when
-  by-pass true k passes q = rw q (λ z. absurd (bad z), λ z. (refl, refl, λ y. refl))
+  by-pass true k passes q = rw q (λ z. absurd (not-true z), λ z. (refl, refl, λ y. refl))
+  by-pass true k (found w) q = rw q (λ z. absurd (not-true z), λ z. (refl, refl, λ y. absurd (worse y)))
     where
-      bad : false ≡ true → ⊥
-      bad z = let y : _≡_ {A = ℕ} 0 1 = cc in omega arith
-  by-pass true k (found w) q = rw q (λ z. absurd (bad z), λ z. (refl, refl, λ y. absurd (worse y)))
-    where
-      bad : false ≡ true → ⊥
-      bad z = let y : _≡_ {A = ℕ} 0 1 = cc in omega arith
-
       worse : told.Found w ≡ told.Passes → ⊥
       worse z = let y : _≡_ {A = ℕ} 0 1 = cc in omega arith
-  by-pass false k a q = rw q (λ z. refl, λ z. absurd (bad z))
-    where
-      bad : true ≡ false → ⊥
-      bad z = let y : _≡_ {A = ℕ} 0 1 = cc in omega arith
+  by-pass false k a q = rw q (λ z. refl, λ z. absurd (not-false z))
 
   pub pass-told : (isOver p ≡ true → samplesFit b f rs ns ts ≡ false)
       × (isOver p ≡ false → (samplesFit b f rs ns ts ≡ true) × (firstOf p ≡ asked (firstFound (passed (tracksBy b f rs ns ts)))) × (firstOf p ≡ told.Passes → samplesIn p ≡ total (tracksBy b f rs ns ts)))
@@ -159,18 +142,9 @@ module _ (ns : List ℕ) where
 module _ (p : Followed) where
   by-follow : (x : Bool) (a : Answer) → p ≡ when x (follows.tell a) follow-is.Over → (breaks p ≡ true → x ≡ false) × (breaks p ≡ false → (x ≡ true) × (lastOf p ≡ asked a))
   unfolding when
-  by-follow true passes q = rw q (λ z. absurd (bad z), λ z. (refl, refl))
-    where
-      bad : false ≡ true → ⊥
-      bad z = let y : _≡_ {A = ℕ} 0 1 = cc in omega arith
-  by-follow true (found w) q = rw q (λ z. absurd (bad z), λ z. (refl, refl))
-    where
-      bad : false ≡ true → ⊥
-      bad z = let y : _≡_ {A = ℕ} 0 1 = cc in omega arith
-  by-follow false a q = rw q (λ z. refl, λ z. absurd (bad z))
-    where
-      bad : true ≡ false → ⊥
-      bad z = let y : _≡_ {A = ℕ} 0 1 = cc in omega arith
+  by-follow true passes q = rw q (λ z. absurd (not-true z), λ z. (refl, refl))
+  by-follow true (found w) q = rw q (λ z. absurd (not-true z), λ z. (refl, refl))
+  by-follow false a q = rw q (λ z. refl, λ z. absurd (not-false z))
 
   pub follow-told : (f : List ℕ) (rs : List Run) (ms : List row.Moof) (ns : List ℕ) → p ≡ follows.followedOf f rs ms ns
       → (breaks p ≡ true → follows.gapsFit ns (follows.moofsIn f rs ms) ≡ false)
@@ -257,7 +231,7 @@ module _ (m : Movie) where
             ∙ ap₂ (λ (x y : Asked). orAsked (orAsked (asked agreeing) x) (orAsked y (asked (firstFound (follow ts (m .moofs)))))) ep es
             ∙ ap₂ orAsked (or-asked agreeing (firstFound (passed ts))) (or-asked (sweep (m .payloads) (tracksIn b (m .file) (m .runs) (m .numbers) (m .tables))) (firstFound (follow ts (m .moofs))))
             ∙ or-asked (orElse agreeing (firstFound (passed ts))) (orElse (sweep (m .payloads) (tracksIn b (m .file) (m .runs) (m .numbers) (m .tables))) (firstFound (follow ts (m .moofs))))
-            ∙ ap asked (or-either agreeing (firstFound (passed ts)) (sweep (m .payloads) (tracksIn b (m .file) (m .runs) (m .numbers) (m .tables))) (firstFound (follow ts (m .moofs))) ∙ only-then agreeing refl (firstFound (passed ts)))
+            ∙ ap asked (or-nested agreeing (firstFound (passed ts)) (sweep (m .payloads) (tracksIn b (m .file) (m .runs) (m .numbers) (m .tables))) (firstFound (follow ts (m .moofs))) ∙ only-then agreeing refl (firstFound (passed ts)))
 
         pub all-judged : isFragmented (m .moofs) && hasSamples (m .tables) ≡ false → (k s c : ℕ) → k ≡ length (m .numbers) → (P ≡ told.Passes → s ≡ total ts) → c ≡ bytes (m .payloads)
             → (r : Audited) → r ≡ toldOf (orAsked (orAsked A P) (orAsked S F)) k s c → r ≡ judgeOf m

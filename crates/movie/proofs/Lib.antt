@@ -1,3 +1,4 @@
+mod Booleans
 mod Rows
 mod Asked
 mod Steps
@@ -5,3 +6,4 @@ mod One
 mod Passing
 mod Judging
 mod Small
+mod Unique

@@ -2,7 +2,7 @@
 use Prim.Native.Nat.{ℕ, suc, _+_, _-_, _<_, _≤_, _^_}
 use mathlib.Core.Path.{_≡_, refl, sym, ap, subst, _∙_}
 use mathlib.Core.List.{List, [], _∷_}
-use mathlib.Core.Bool.{Bool, true, false, _&&_}
+use mathlib.Core.Bool.{Bool, true, false}
 use native.Mathlib.Omega.{arith}
 use lib.ListN.{length, drop}
 use Rattle.numbers.specs.Field.{when}
@@ -22,12 +22,9 @@ use Rattle.passes.specs.declared.Passed.{Passed}
 use Rattle.passes.specs.declared.Passed.the-variants.{Over}
 use Rattle.sweeps.specs.Tracks.{samplesBy}
 use Rattle.movie.specs.Inside.{passOf, Few, isOver}
+use Rattle.movie.proofs.Booleans.{both, not-true, not-false}
 
 -- HOW MANY
-
-both : (a b : Bool) → a && b ≡ true → (a ≡ true) × (b ≡ true)
-both true b q = (refl, q)
-both false b q = let z : _≡_ {A = ℕ} 0 1 = cc in absurd (omega arith)
 
 -- samples that are numbered one by one, and fit
 held-few : (l : List Sample) (c : ℕ) → ((j : ℕ) (s : Sample) (m : List Sample) → drop j l ≡ s ∷ m → s .number ≡ (c + j) + 1) → allHeld l ≡ true → c ≤ 2 ^ 32 → c + length l ≤ 2 ^ 32
@@ -58,18 +55,9 @@ module _ (f : List ℕ) (n : ℕ) where
 module _ (f : List ℕ) (rs : List Run) (n : ℕ) (t : tables.Track) (own : Passed) (e : own ≡ passedOf n (samplesOf f t)) where
   by-held : (b c : Bool) (a : Answer) (k : ℕ) → c ≡ isOver (when b (tell k a) Over) → (c ≡ true → b ≡ false) × (c ≡ false → b ≡ true)
   unfolding when
-  by-held true c passes k q = (λ z. absurd (bad (sym z ∙ q)), λ z. refl)
-    where
-      bad : true ≡ false → ⊥
-      bad z = let y : _≡_ {A = ℕ} 0 1 = cc in omega arith
-  by-held true c (found x) k q = (λ z. absurd (bad (sym z ∙ q)), λ z. refl)
-    where
-      bad : true ≡ false → ⊥
-      bad z = let y : _≡_ {A = ℕ} 0 1 = cc in omega arith
-  by-held false c a k q = (λ z. refl, λ z. absurd (bad (sym z ∙ q)))
-    where
-      bad : false ≡ true → ⊥
-      bad z = let y : _≡_ {A = ℕ} 0 1 = cc in omega arith
+  by-held true c passes k q = (λ z. absurd (not-false (sym z ∙ q)), λ z. refl)
+  by-held true c (found x) k q = (λ z. absurd (not-false (sym z ∙ q)), λ z. refl)
+  by-held false c a k q = (λ z. refl, λ z. absurd (not-true (sym z ∙ q)))
 
   held-by : (c : Bool) → c ≡ isOver own → (c ≡ true → allHeld (samplesOf f t) ≡ false) × (c ≡ false → allHeld (samplesOf f t) ≡ true)
   unfolding passedOf

@@ -26,12 +26,9 @@ use Rattle.sweeps.specs.Tracks.{samplesBy}
 use Rattle.movie.specs.Movie.{tracksBy, samplesFit}
 use Rattle.movie.specs.Inside.{passOf, passAll, either}
 use Rattle.movie.proofs.Rows.{at-row, no-row}
+use Rattle.movie.proofs.Asked.{answerOf}
 
--- WHAT AN ANSWER SAYS
-
-abbrev pub answerOf : Asked → Answer
-answerOf told.Passes = passes
-answerOf (told.Found x) = found x
+-- ONE TRACK
 
 module _ (b : Bool) (f : List ℕ) (rs : List Run) (n : ℕ) (t : tables.Track) where
   abbrev pub own : List Sample
@@ -95,9 +92,9 @@ or-passes : (a : Answer) → orElse a passes ≡ a
 or-passes passes = refl
 or-passes (found x) = refl
 
-or-either : (a : Asked) (x : Finding) (b : Answer) → orElse (answerOf (either a x)) b ≡ orElse (answerOf a) (found x)
-or-either told.Passes x b = refl
-or-either (told.Found y) x b = refl
+either-first : (a : Asked) (x : Finding) (b : Answer) → orElse (answerOf (either a x)) b ≡ orElse (answerOf a) (found x)
+either-first told.Passes x b = refl
+either-first (told.Found y) x b = refl
 
 module _ (b : Bool) (f : List ℕ) (rs : List Run) (ns : List ℕ) (ts : List tables.Track) (count : ℕ) where
   -- the tracks from the i-th on
@@ -190,7 +187,7 @@ module _ (b : Bool) (f : List ℕ) (rs : List Run) (ns : List ℕ) (ts : List ta
           let (u, v) = found-fits b f rs (getD ns i 0) (getD ts i d) r e x q in
           record {
             fits = fits-on u;
-            finds = ap (λ (z : Asked). orElse (answerOf z) (firstFound (passed (tracksFrom (i + 1))))) p ∙ or-either first x (firstFound (passed (tracksFrom (i + 1))))
+            finds = ap (λ (z : Asked). orElse (answerOf z) (firstFound (passed (tracksFrom (i + 1))))) p ∙ either-first first x (firstFound (passed (tracksFrom (i + 1))))
                 ∙ ap (orElse (answerOf first)) (sym (found-more ∙ ap (λ (z : Answer). orElse z (firstFound (passed (tracksFrom (i + 1))))) v)) ∙ w .finds;
             counts = λ z. absurd (not-passes x (sym p ∙ z));
             few = omega (arith, w .few);
