@@ -7,3 +7,4 @@ mod Passing
 mod Judging
 mod Small
 mod Unique
+mod Vectors
