@@ -2,7 +2,7 @@
 // goes through the payloads of the file's mdats, and each byte that it comes to must be the first of one sample.
 ghost use mathlib.Core.Path.{_≡_};
 ghost use mathlib.Core.Bool.{true, false};
-ghost use Prim.Native.Nat.{_≤_, min};
+ghost use Prim.Native.Nat.{_+_, _≤_, _<_, min};
 ghost use lib.ListN.{take};
 ghost use Rattle.kin.specs.Kin.{boxes};
 ghost use Rattle.runtable.specs.Table.{rowsOf};
@@ -255,6 +255,20 @@ fn dead(track: u32) -> Head
     }
 }
 
+// Whether a sample can be taken at p with no look at the other tracks.
+fn goes_on(offset: u64, size: u64, p: u64, until: u64, end: u64) -> bool
+    requires { ⌜ p ≤ end ⌝ }
+    ensures { λ r. ⌜ (r ≡ true → (offset ≡ p) × (p < until) × (p + size ≤ end)) ⌝ }
+{
+    if offset == p {
+        if p < until {
+            return size <= end - p;
+        }
+        return false;
+    }
+    false
+}
+
 // A lane's next sample.
 fn met(track: u32, sample: samples::Sample) -> Head
     ensures { λ r. ⌜ r ≡ ahead true track (sample .number) (sample .offset) (sample .size) ⌝ }
@@ -350,29 +364,16 @@ fn by_tables(
                 lane: after,
             } => {
                 let size = sample.size as u64;
-                if sample.offset != at {
+                if goes_on(sample.offset, size, at, until, end) {
+                    at += size;
+                    rest = after;
+                } else {
                     return Tabled {
                         at: at,
                         head: met(number, sample),
                         lane: after,
                     };
                 }
-                if until <= at {
-                    return Tabled {
-                        at: at,
-                        head: met(number, sample),
-                        lane: after,
-                    };
-                }
-                if end - at < size {
-                    return Tabled {
-                        at: at,
-                        head: met(number, sample),
-                        lane: after,
-                    };
-                }
-                at += size;
-                rest = after;
             }
         }
     }
@@ -421,29 +422,16 @@ fn by_runs(
                 lane: after,
             } => {
                 let size = sample.size as u64;
-                if sample.offset != at {
+                if goes_on(sample.offset, size, at, until, end) {
+                    at += size;
+                    rest = after;
+                } else {
                     return Ran {
                         at: at,
                         head: met(number, sample),
                         lane: after,
                     };
                 }
-                if until <= at {
-                    return Ran {
-                        at: at,
-                        head: met(number, sample),
-                        lane: after,
-                    };
-                }
-                if end - at < size {
-                    return Ran {
-                        at: at,
-                        head: met(number, sample),
-                        lane: after,
-                    };
-                }
-                at += size;
-                rest = after;
             }
         }
     }

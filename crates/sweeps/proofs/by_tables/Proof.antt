@@ -52,35 +52,23 @@ enum-known-sample c = search needs
 cast-size : tie.Need-cast-size Inv-loop μ-loop
 cast-size c = search needs
 
+goes-on-requires : tie.Need-goes-on-requires Inv-loop μ-loop
+goes-on-requires c κs = c .before .before .before .before .before .loop .inv .stays
+
+add-at : tie.Need-add-at Inv-loop μ-loop
+add-at c = omega (arith, (c .before .goes-on .ensures (c .if1 .taken)) .2)
+
+loop-less : tie.Need-loop-less Inv-loop μ-loop
+loop-less c = less-one _ _ _ _ _ (c .before .before .before .before .before .before .before .before .before .before .args .number) (tabled.left (c .before .before .before .before .before .before .before .before .before .before .args .file .now) (c .before .before .before .before .before .before .before .before .before .before .args .t) (c .before .before .before .before .before .before .before .loop .rest)) (c .before .before .before .before .before .before .before .loop .inv) _ _ (at-one (c .before .before .before .before .before .before .before .before .before .before .args .file .now) (c .before .before .before .before .before .before .before .before .before .before .args .t) (c .before .before .before .before .before .before .before .loop .rest) _ (c .before .before .before .before .before .before .next .ensures) _ _ (c .before .before .before .before .sample .given .1))
+
+loop-again : tie.Need-loop-again Inv-loop μ-loop
+loop-again c = let g = c .before .goes-on .ensures (c .if1 .taken) in goes-one _ _ _ _ _ (c .before .before .before .before .before .before .before .before .before .before .args .number) (tabled.left (c .before .before .before .before .before .before .before .before .before .before .args .file .now) (c .before .before .before .before .before .before .before .before .before .before .args .t) (c .before .before .before .before .before .before .before .loop .rest)) (c .before .before .before .before .before .before .before .loop .inv) _ _ (at-one (c .before .before .before .before .before .before .before .before .before .before .args .file .now) (c .before .before .before .before .before .before .before .before .before .before .args .t) (c .before .before .before .before .before .before .before .loop .rest) _ (c .before .before .before .before .before .before .next .ensures) _ _ (c .before .before .before .before .sample .given .1)) (g .0) (g .1) (c .before .before .before .before .before .before .before .before .before .before .pre .1) (g .2)
+
 met-requires : tie.Need-met-requires Inv-loop μ-loop
 met-requires c κs = search needs
 
 returns-3 : tie.Need-returns-3 Inv-loop μ-loop
 returns-3 c = passed-as _ _ _ _ (c .before .before .before .before .before .before .before .before .before .before .before .args .number) (c .before .before .before .before .before .before .before .before .before .before .before .args .file .now) (c .before .before .before .before .before .before .before .before .before .before .before .args .t) _ _ _ _ (c .before .before .before .before .before .before .before .before .before .whole .ensures) (ends-one _ _ _ _ _ (c .before .before .before .before .before .before .before .before .before .before .before .args .number) (tabled.left (c .before .before .before .before .before .before .before .before .before .before .before .args .file .now) (c .before .before .before .before .before .before .before .before .before .before .before .args .t) (c .before .before .before .before .before .before .before .before .loop .rest)) (c .before .before .before .before .before .before .before .before .loop .inv) _ _ (at-one (c .before .before .before .before .before .before .before .before .before .before .before .args .file .now) (c .before .before .before .before .before .before .before .before .before .before .before .args .t) (c .before .before .before .before .before .before .before .before .loop .rest) _ (c .before .before .before .before .before .before .before .next .ensures) _ _ (c .before .before .before .before .before .sample .given .1)) _ (c .met .ensures))
-
-met-requires-2 : tie.Need-met-requires-2 Inv-loop μ-loop
-met-requires-2 c κs = search needs
-
-returns-4 : tie.Need-returns-4 Inv-loop μ-loop
-returns-4 c = passed-as _ _ _ _ (c .before .before .before .before .before .before .before .before .before .before .before .before .args .number) (c .before .before .before .before .before .before .before .before .before .before .before .before .args .file .now) (c .before .before .before .before .before .before .before .before .before .before .before .before .args .t) _ _ _ _ (c .before .before .before .before .before .before .before .before .before .before .whole .ensures) (ends-one _ _ _ _ _ (c .before .before .before .before .before .before .before .before .before .before .before .before .args .number) (tabled.left (c .before .before .before .before .before .before .before .before .before .before .before .before .args .file .now) (c .before .before .before .before .before .before .before .before .before .before .before .before .args .t) (c .before .before .before .before .before .before .before .before .before .loop .rest)) (c .before .before .before .before .before .before .before .before .before .loop .inv) _ _ (at-one (c .before .before .before .before .before .before .before .before .before .before .before .before .args .file .now) (c .before .before .before .before .before .before .before .before .before .before .before .before .args .t) (c .before .before .before .before .before .before .before .before .before .loop .rest) _ (c .before .before .before .before .before .before .before .before .next .ensures) _ _ (c .before .before .before .before .before .before .sample .given .1)) _ (c .met2 .ensures))
-
-sub-if3 : tie.Need-sub-if3 Inv-loop μ-loop
-sub-if3 c = c .before .before .before .before .before .before .before .before .loop .inv .stays
-
-met-requires-3 : tie.Need-met-requires-3 Inv-loop μ-loop
-met-requires-3 c κs = search needs
-
-returns-5 : tie.Need-returns-5 Inv-loop μ-loop
-returns-5 c = passed-as _ _ _ _ (c .before .before .before .before .before .before .before .before .before .before .before .before .before .args .number) (c .before .before .before .before .before .before .before .before .before .before .before .before .before .args .file .now) (c .before .before .before .before .before .before .before .before .before .before .before .before .before .args .t) _ _ _ _ (c .before .before .before .before .before .before .before .before .before .before .before .whole .ensures) (ends-one _ _ _ _ _ (c .before .before .before .before .before .before .before .before .before .before .before .before .before .args .number) (tabled.left (c .before .before .before .before .before .before .before .before .before .before .before .before .before .args .file .now) (c .before .before .before .before .before .before .before .before .before .before .before .before .before .args .t) (c .before .before .before .before .before .before .before .before .before .before .loop .rest)) (c .before .before .before .before .before .before .before .before .before .before .loop .inv) _ _ (at-one (c .before .before .before .before .before .before .before .before .before .before .before .before .before .args .file .now) (c .before .before .before .before .before .before .before .before .before .before .before .before .before .args .t) (c .before .before .before .before .before .before .before .before .before .before .loop .rest) _ (c .before .before .before .before .before .before .before .before .before .next .ensures) _ _ (c .before .before .before .before .before .before .before .sample .given .1)) _ (c .met3 .ensures))
-
-add-at : tie.Need-add-at Inv-loop μ-loop
-add-at c = search needs
-
-loop-less : tie.Need-loop-less Inv-loop μ-loop
-loop-less c = less-one _ _ _ _ _ (c .before .before .before .before .before .before .before .before .before .before .before .before .args .number) (tabled.left (c .before .before .before .before .before .before .before .before .before .before .before .before .args .file .now) (c .before .before .before .before .before .before .before .before .before .before .before .before .args .t) (c .before .before .before .before .before .before .before .before .before .loop .rest)) (c .before .before .before .before .before .before .before .before .before .loop .inv) _ _ (at-one (c .before .before .before .before .before .before .before .before .before .before .before .before .args .file .now) (c .before .before .before .before .before .before .before .before .before .before .before .before .args .t) (c .before .before .before .before .before .before .before .before .before .loop .rest) _ (c .before .before .before .before .before .before .before .before .next .ensures) _ _ (c .before .before .before .before .before .before .sample .given .1))
-
-loop-again : tie.Need-loop-again Inv-loop μ-loop
-loop-again c = goes-one _ _ _ _ _ (c .before .before .before .before .before .before .before .before .before .before .before .before .args .number) (tabled.left (c .before .before .before .before .before .before .before .before .before .before .before .before .args .file .now) (c .before .before .before .before .before .before .before .before .before .before .before .before .args .t) (c .before .before .before .before .before .before .before .before .before .loop .rest)) (c .before .before .before .before .before .before .before .before .before .loop .inv) _ _ (at-one (c .before .before .before .before .before .before .before .before .before .before .before .before .args .file .now) (c .before .before .before .before .before .before .before .before .before .before .before .before .args .t) (c .before .before .before .before .before .before .before .before .before .loop .rest) _ (c .before .before .before .before .before .before .before .before .next .ensures) _ _ (c .before .before .before .before .before .before .sample .given .1)) (c .before .before .if1 .left) (c .before .if2 .left) (c .before .before .before .before .before .before .before .before .before .before .before .before .pre .1) (omega (arith, c .if3 .left, c .before .before .before .before .before .before .before .before .before .loop .inv .stays))
 
 pub by-tables-spec : {M : Type 1} → statement M
 by-tables-spec =
@@ -99,13 +87,9 @@ by-tables-spec =
     returns-2
     enum-known-sample
     cast-size
-    met-requires
-    returns-3
-    met-requires-2
-    returns-4
-    sub-if3
-    met-requires-3
-    returns-5
+    goes-on-requires
     add-at
     loop-less
-    loop-again)
+    loop-again
+    met-requires
+    returns-3)
