@@ -7,6 +7,7 @@ ghost use Rattle.follows.specs.Follows.{moofsIn};
 ghost use Rattle.audit.specs.Boxes.{countIn};
 ghost use Rattle.audit.specs.File.{firstTraks, tablesIn, movieIn, auditFile};
 ghost use Rattle.audit.specs.Inside.{moreOf, judgedBy, judgedAll};
+use kin::TRACKS;
 use moofs::Filled;
 use rows::Judged;
 use stbl::Found;
@@ -17,9 +18,6 @@ use tables::Table;
 use tables::Track;
 use tree::Scanned;
 use verdicts::Audited;
-
-// How many tracks there may be.
-const TRACKS: usize = 4;
 
 // A place for a track: with no samples.
 fn no_track() -> Track {

@@ -1,16 +1,13 @@
 // The samples of a file that the audit does not refuse: a line for each, tabs between, by track in the order of the moov.
 // Each function tells whether all of it was written.
 use crate::say;
+use contents::held::SAMPLES;
+use kin::TRACKS;
 use moofs::Filled;
 use samples::Sample;
 use stbl::Found;
 use tables::Track;
 use tree::Scanned;
-
-// Document 01's limits: the audit refuses a file with more.
-const TRACKS: u32 = 4;
-
-const SAMPLES: u32 = 65536;
 
 fn sample(track: u32, s: Sample) -> bool {
     let sync = if s.sync { 1 } else { 0 };

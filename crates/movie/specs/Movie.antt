@@ -22,10 +22,6 @@ use Rattle.verdicts.specs.declared.Audited.the-variants.{Refused}
 use Rattle.sweeps.specs.Tracks.{samplesBy}
 use Rattle.follows.specs.Follows.{gapsFit}
 
--- how many tracks there may be (document 01, Limits)
-abbrev pub trackLimit : ℕ
-trackLimit = 4
-
 -- the bytes of the file; the payloads of its mdats; its tracks in the order of the moov, by their numbers and by their
 -- tables; the runs of its fragments, and its moofs, in the order of the file
 pub record Movie : Type 0 where

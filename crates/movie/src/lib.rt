@@ -3,7 +3,7 @@ ghost use mathlib.Core.Path.{_≡_};
 ghost use mathlib.Core.Bool.{_&&_};
 ghost use Prim.Native.Nat.{_≤_, min};
 ghost use lib.ListN.{take};
-ghost use Rattle.kin.specs.Kin.{boxes};
+ghost use Rattle.kin.specs.Kin.{boxes, trackLimit};
 ghost use Rattle.payloads.specs.Payloads.{payloadsFrom};
 ghost use Rattle.verdicts.specs.Findings.{asked, firstFound};
 ghost use Rattle.verdicts.specs.Sweep.{bytes};
@@ -12,10 +12,11 @@ ghost use Rattle.numbers.specs.Field.{refusal};
 ghost use Rattle.mooftable.specs.Table as moof-rows;
 ghost use Rattle.follows.specs.Follows.{moofsIn};
 ghost use Rattle.verdicts.specs.declared.Audited.the-variants.{Refused};
-ghost use Rattle.movie.specs.Movie.{trackLimit, movieOf, hasSamples, judgeOf};
+ghost use Rattle.movie.specs.Movie.{movieOf, hasSamples, judgeOf};
 ghost use Rattle.movie.specs.Inside.{mediaOf, agreement, agreed, passOf, passAll, Few};
 ghost use Rattle.movie.specs.Inside.{isSome, isOver, either, firstOf, samplesIn, breaks, lastOf, orAsked, toldOf};
 use follows::Followed;
+use kin::TRACKS;
 use numbers::Refusal;
 use passes::Passed;
 use payloads::Payload;
@@ -26,9 +27,6 @@ use verdicts::Finding;
 
 // The largest number.
 const LAST: u64 = 0xFFFF_FFFF_FFFF_FFFF;
-
-// How many tracks there may be.
-const TRACKS: usize = 4;
 
 // The bytes of all media data, or that they are no 64-bit number.
 enum Sum {
