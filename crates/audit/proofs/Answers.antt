@@ -12,7 +12,7 @@ use Rattle.kin.specs.Kin.{Boxes, boxes}
 use Rattle.tables.specs.declared.Track as tables
 use Rattle.tree.specs.Tables.{out, tables as columns, scanOf}
 use Rattle.tree.specs.declared.Scanned.{Scanned}
-use Rattle.opening.specs.Opening.{refusalOf}
+use Rattle.opening.specs.Opening.{recorded as rows, refusalOf}
 use Rattle.runtable.specs.Table as runtable
 use Rattle.mooftable.specs.Table as mooftable
 use Rattle.moofs.specs.Moofs.{All, all, refused, Fragment, fragmentsOf, allRuns, Output, output, fillOf}
@@ -27,12 +27,10 @@ use Rattle.verdicts.specs.Audit.{auditOf, audited}
 use Rattle.verdicts.specs.declared.Audited.{Audited}
 use Rattle.verdicts.specs.declared.Audited.the-variants.{Refused}
 use Rattle.movie.specs.Movie.{movieOf, tracksOf, refusalIn, judgeOf}
-use Rattle.audit.specs.Boxes.{empty, answerIn, boxesIn, countIn, scannedOf, boxesOf, countOf}
+use Rattle.audit.specs.Boxes.{empty, answerIn, boxesIn, scannedOf, boxesOf, countOf}
 use Rattle.audit.specs.File.{firstTraks, numbersOf, tablesIn, Opened, is, isNot, withAll, movieIn, unlessRefused, openOf, answerTo, auditFile}
+use Rattle.audit.proofs.Recorded.{full}
 use Rattle.audit.specs.Inside.{judgedAll, judgedWith, judgedBy}
-
-pub full : (n v : ℕ) → n ≡ length (replicate n v)
-full n v = sym (length-replicate n v)
 
 -- FRAGMENTS
 
@@ -112,8 +110,8 @@ module _ (f a b k p d l : List ℕ) (s : Scanned) (e : out s (columns a b k p d 
     unfolding auditFile openOf
     answers-refused q z = sym (ap (λ (x : Judged). answerTo (settle (unlessRefused (movieIn f (boxesOf f) (countOf f))) isNot x)) (sym judgement ∙ z))
 
-    pub answers : j ≡ Fine → (n : ℕ) → n ≡ countIn s → (r : Audited) → r ≡ judgedAll (movieIn f (boxes a b k p l) n) → r ≡ auditFile f
+    pub answers : j ≡ Fine → (n : ℕ) → n ≡ rows s → (r : Audited) → r ≡ judgedAll (movieIn f (boxes a b k p l) n) → r ≡ auditFile f
     unfolding auditFile openOf
     answers z n en r er =
-        er ∙ ap₂ (λ (x : Boxes) (y : ℕ). judgedAll (movieIn f x y)) recorded (en ∙ ap countIn scanned) ∙ judged-is (movieIn f (boxesOf f) (countOf f))
+        er ∙ ap₂ (λ (x : Boxes) (y : ℕ). judgedAll (movieIn f x y)) recorded (en ∙ ap rows scanned) ∙ judged-is (movieIn f (boxesOf f) (countOf f))
         ∙ sym (ap (λ (x : Judged). answerTo (settle (unlessRefused (movieIn f (boxesOf f) (countOf f))) isNot x)) (sym judgement ∙ z))

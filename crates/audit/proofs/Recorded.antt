@@ -17,13 +17,15 @@ use Rattle.tree.specs.Forest.{nodesOf}
 use Rattle.tree.proofs.Columns.{columns}
 use Rattle.tree.proofs.Order.{tree-few, tree-apart}
 use Rattle.kin.specs.Kin.{Boxes, boxes, at, stands}
+use Rattle.opening.specs.Opening.{recorded as rows}
 use Rattle.verdicts.specs.Meaning.{InOrder}
 use Rattle.payloads.specs.Payloads.{isMedia, payloadsFrom}
 use Rattle.payloads.proofs.Laws.{Apart, in-order}
-use Rattle.audit.specs.Boxes.{empty, boxesBy, boxesIn, answerIn, countIn, scannedOf, boxesOf, countOf}
+use Rattle.audit.specs.Boxes.{empty, boxesBy, boxesIn, answerIn, scannedOf, boxesOf, countOf}
 
-full : (n v : ℕ) → length (replicate n v) ≡ n
-full n v = length-replicate n v
+-- a table has as many numbers as it was made with
+pub full : (n v : ℕ) → n ≡ length (replicate n v)
+full n v = sym (length-replicate n v)
 
 -- a column of the tables
 abbrev column : (Node → ℕ) → List Node → List ℕ
@@ -50,7 +52,7 @@ boxes-in : (w : Walked) → boxesIn (recorded empty 0 w)
 boxes-in (whole xs) = ap boxesBy (columns (replicate boxLimit 0) (replicate boxLimit 0) (replicate boxLimit 0) (replicate boxLimit 0) (replicate boxLimit 0) (replicate boxLimit 0) 0 xs)
 boxes-in (fault xs q) = ap boxesBy (columns (replicate boxLimit 0) (replicate boxLimit 0) (replicate boxLimit 0) (replicate boxLimit 0) (replicate boxLimit 0) (replicate boxLimit 0) 0 xs)
 
-count-in : (w : Walked) → countIn (answerIn (recorded empty 0 w)) ≡ length (nodesOf w)
+count-in : (w : Walked) → rows (answerIn (recorded empty 0 w)) ≡ length (nodesOf w)
 count-in (whole xs) = omega arith
 count-in (fault xs q) = omega arith
 

@@ -1,12 +1,13 @@
--- The boxes of a file, recorded in tables that were empty. Assumes nothing.
+-- The boxes of a file, recorded in tables that were empty (document 01, "each set up empty by one repeat"; D9). Assumes
+-- nothing.
 use Prim.Native.Nat.{ℕ}
 use mathlib.Core.List.{List}
 use lib.ListN.{replicate}
 use Rattle.places.specs.Visit.{boxLimit}
 use Rattle.tree.specs.Tables.{Tables, tables, Out, out, scanOf}
 use Rattle.tree.specs.declared.Scanned.{Scanned}
-use Rattle.tree.specs.declared.Scanned.the-variants as scan
 use Rattle.kin.specs.Kin.{Boxes, boxes}
+use Rattle.opening.specs.Opening.{recorded}
 
 abbrev pub empty : Tables
 empty =
@@ -21,10 +22,6 @@ boxesBy (tables a b k p d l) = boxes a b k p l
 abbrev pub boxesIn : Out Scanned → Boxes
 boxesIn (out a t) = boxesBy t
 
-abbrev pub countIn : Scanned → ℕ
-countIn (scan.Whole n) = n
-countIn (scan.Fault n q) = n
-
 -- what was recorded of a file, whether or not there was a fault: the answer, the boxes, and how many
 unfoldable pub scannedOf : List ℕ → Scanned
 scannedOf f = answerIn (scanOf f empty)
@@ -33,4 +30,4 @@ unfoldable pub boxesOf : List ℕ → Boxes
 boxesOf f = boxesIn (scanOf f empty)
 
 abbrev pub countOf : List ℕ → ℕ
-countOf f = countIn (scannedOf f)
+countOf f = recorded (scannedOf f)

@@ -4,7 +4,7 @@ ghost use Rattle.kin.specs.Kin.{boxes};
 ghost use Rattle.runtable.specs.Table.{rowsOf};
 ghost use Rattle.mooftable.specs.Table as moof-rows;
 ghost use Rattle.follows.specs.Follows.{moofsIn};
-ghost use Rattle.audit.specs.Boxes.{countIn};
+ghost use Rattle.opening.specs.Opening.{recorded};
 ghost use Rattle.audit.specs.File.{firstTraks, tablesIn, movieIn, auditFile};
 ghost use Rattle.audit.specs.Inside.{moreOf, judgedBy, judgedAll};
 use kin::TRACKS;
@@ -155,7 +155,7 @@ fn by_fragments(
 }
 
 fn count_in(scanned: Scanned) -> usize
-    ensures { λ r. ⌜ r ≡ countIn scanned ⌝ }
+    ensures { λ r. ⌜ r ≡ recorded scanned ⌝ }
 {
     match scanned {
         Scanned::Whole(n) => n,

@@ -29,6 +29,11 @@ all : payloadsFrom file tables 4 0 ≡ span 16 19 ∷ span 35 37 ∷ span 45 45 
 unfolding be bytes field when payloadsIn
 all = refl
 
+-- an mdat that names a parent is in another box, and holds no media data (A39)
+inner : payloadsFrom file (boxes (0 ∷ 8 ∷ 19 ∷ 37 ∷ []) (8 ∷ 11 ∷ 18 ∷ 8 ∷ []) (ftyp ∷ mdat ∷ mdat ∷ mdat ∷ []) (0 ∷ 0 ∷ 1 ∷ 0 ∷ []) (1 ∷ 1 ∷ 1 ∷ 1 ∷ [])) 4 0 ≡ span 16 19 ∷ span 45 45 ∷ []
+unfolding be bytes field when payloadsIn
+inner = refl
+
 -- one after the other: each tells the row from which to go on
 first : nextOf file tables 4 0 ≡ At 16 19 2
 unfolding be bytes field when nextIn

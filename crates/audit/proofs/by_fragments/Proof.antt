@@ -1,5 +1,6 @@
+use Rattle.audit.proofs.Recorded.{full}
 use Rattle.kin.specs.Kin.{boxes}
-use Rattle.audit.proofs.Answers.{full, fragments-refused, opened-refused, opened}
+use Rattle.audit.proofs.Answers.{fragments-refused, opened-refused, opened}
 use borrow.Author.Needs.{needs}
 use Rattle.audit.proofs.by_fragments.Statement.{statement}
 use Rattle.audit.proofs.by_fragments.Tie as tie
