@@ -3,14 +3,15 @@
 one against.
 
 Written from document 01 and readings A1 to A55 and A66. The walk is expected/tree.py's, a box's fields are read by
-expected/boxes.py, and the samples of tables are listed by expected/tables.py. What stands in a sample entry is not judged
-yet: of avc1, mp4a, vp09, tx3g and what is in them the headers alone are.
+expected/boxes.py, those of a sample entry and its configuration by expected/entries.py, and the samples of tables are listed
+by expected/tables.py.
     python3 expected/audit.py FILE ...
     python3 expected/audit.py --list FILE
 """
 import sys
 
 import boxes
+import entries
 import tables
 import tree
 from boxes import Refused
@@ -46,6 +47,8 @@ HEADING = "track number offset size time duration composition sync".split()
 ONCE = set("ftyp moov mvhd mvex tkhd edts mdia elst mdhd hdlr minf dinf dref stbl stsd stts ctts stsc stsz stco stss "
            "avcC esds vpcC mfhd tfhd tfdt trun".split())
 HOLDERS = set("edts dinf mvex moof traf".split())  # boxes.py has readers for them too; here the walk has judged them
+READERS = {kind.decode("latin-1"): read for kind, read in {**boxes.READERS, **entries.READERS}.items()
+           if kind.decode("latin-1") not in HOLDERS}
 
 
 class Finding(Exception):
@@ -117,7 +120,7 @@ class Contents:
         for node in nodes:
             if node.placed:
                 self.place(node)
-                if node.kind.encode("latin-1") in boxes.READERS and node.kind not in HOLDERS:
+                if node.kind in READERS:
                     self.read(node)
 
     def place(self, node):
@@ -134,7 +137,7 @@ class Contents:
                 self.ASKED[node.kind, index](self, node, value, at)
         try:
             box = Fields(self.data[node.start:node.end], ask)
-            boxes.READERS[node.kind.encode("latin-1")](box)
+            READERS[node.kind](box)
         except Refused as fault:
             number, position = fault.args
             raise Refused(number, node.start + position) from None

@@ -62,6 +62,9 @@ def sound():
                + picture_entry(b"avc1", FREE))
     yield "entries", clean(1, 3, 60), one(stsd=counted(b"stsd", 5, entries), hdlr=full("hdlr", bytes(20)),
                                           dref=counted(b"dref", 2, URL + box(b"urn ")))
+    coded = (picture_entry(b"avc1", FREE + AVCC) + picture_entry(b"vp09", VPCC) + sound_entry(0, ESDS) + text + box(b"hvc1", b"?")
+             + sound_entry(2, bytes(20) + box(b"esds", b"?")))
+    yield "coded", clean(1, 3, 60), one(stsd=counted(b"stsd", 6, coded))
     yield "depth_10", clean(0, 0, 0), movie(0, nest(9)) + nest(10)
     yield "boxes_4096", clean(1, 3, 60), one() + FREE * (4096 - 20)
     yield "samples_65536", clean(1, 65536, 65536), movie(
@@ -250,6 +253,32 @@ def twice():
     yield "6_vpcC", "6 @vpcC#2", one(stsd=counted(b"stsd", 1, picture_entry(b"vp09", VPCC + FREE + VPCC)))
 
 
+def codings():
+    """What is wrong in a sample entry or in its configuration."""
+    def entry(made):
+        return one(stsd=counted(b"stsd", 1, made))
+
+    def stream(made):
+        return entry(sound_entry(0, box(b"esds", bytes(4) + bytes.fromhex(made))))
+    picture = bytes(6) + u16(1) + bytes(70)
+    yield "1_avc1", "1 @avc1#2+84", entry(box(b"avc1", picture[:-1]))
+    yield "1_vp09", "1 @vp09+40", entry(box(b"vp09", picture[:34]))
+    yield "1_mp4a", "1 @mp4a+32", entry(box(b"mp4a", picture[:27]))
+    yield "1_tx3g", "1 @tx3g+45", entry(box(b"tx3g", picture[:37]))
+    yield "8_avcC", "8 @avcC+8", entry(picture_entry(b"avc1", box(b"avcC", b"\2" + AVCC[9:])))
+    yield "1_avcC_set", "1 @avcC+16", entry(picture_entry(b"avc1", box(b"avcC", b"\1\x64\0\x0d\xff\xe1\0\5\x67")))
+    yield "7_vpcC", "7 @vpcC+8", entry(picture_entry(b"vp09", full("vpcC", bytes(8))))
+    yield "1_vpcC_data", "1 @vpcC+20", entry(picture_entry(b"vp09", full("vpcC", bytes(6) + u16(1), 1)))
+    yield "7_esds", "7 @esds+8", entry(sound_entry(0, full("esds", ESDS[12:], 1)))
+    yield "8_esds_tag", "8 @esds+12", stream("04 00")
+    yield "1_esds_past", "1 @esds+12", stream("04 01")
+    yield "8_esds_length", "8 @esds+13", stream("03 ff ff ff ff 00")
+    yield "1_esds_location", "1 @esds+18", stream("03 05 0001 40 02 61")
+    yield "1_esds_information", "1 @esds+35", stream("03 18 0001 00 04 10 40 15 000000 00000000 00000000 05 01 11 06 01 02")
+    # a fault in an entry comes before one in a box behind it
+    yield "1_avcC_first", "1 @avcC+14", one(stsd=counted(b"stsd", 1, picture_entry(b"avc1", box(b"avcC", AVCC[8:14]))), stts=b"")
+
+
 def versions():
     """7, at the version byte; nothing behind it is read."""
     for kind in FULL:
@@ -409,7 +438,7 @@ def follow():
     yield "8_before_7", "F8 2 0 @moof#2 1", pairs((0, 0), (1000, 1001), (2000, 2000), numbers=(1, 2, 9))
 
 
-BUILT = (sound, sound_fragments, cut, cut_fields, limits, missing, twice, versions, values, sums, differ, swept, follow)
+BUILT = (sound, sound_fragments, cut, cut_fields, limits, missing, twice, codings, versions, values, sums, differ, swept, follow)
 
 
 def place(data, found):

@@ -3,7 +3,7 @@
 
     python3 expected/movies.py write [FOLDER]     writes data/, args, stdout and listing/; without FOLDER, where they are kept
     python3 expected/movies.py compare [FOLDER]   makes them again and holds them against what is there
-    python3 expected/movies.py hurt FOLDER SEED   writes data/, args and stdout of 400 other damaged files
+    python3 expected/movies.py hurt FOLDER SEED   writes data/, args and stdout of 420 other damaged files
 The built files of expected/cases.py and those of other makers come with verdicts from elsewhere, and expected/audit.py must
 say the same. A small file that is cut at every length has its verdicts here. For files that were damaged by chance the
 verdict is expected/audit.py's. Whatever it says, a count of the media bytes must bear it out.
@@ -19,7 +19,7 @@ from cases import built, clean, expected
 from damage import box, large, u32
 
 TARGET = pathlib.Path(__file__).resolve().parent.parent / "crates" / "framewitness"  # where data, args, stdout and listing are kept
-MOST_FILES, MOST_BYTES = 400, 1 << 20  # names in one call; bytes of one file, since the program's buffer may be no larger
+MOST_FILES, MOST_BYTES = 420, 1 << 20  # names in one call; bytes of one file, since the program's buffer may be no larger
 LISTED = ("clean_case2", "clean_ctts", "clean_frag_shifts", "clean_frag_defaults", "clean_frag_no_base", "f4_sizes_64")
 
 

@@ -382,8 +382,11 @@ def our_answers(program, cases):
 
 def lines_of(program, data):
     lines = [boxes.line(one) for one in data]
-    if program is None:
-        return lines
+    return lines if program is None else program_lines(program, data, lines)
+
+
+def program_lines(program, data, lines):
+    """The lines of a program over packs, each of which must be that of the second implementation."""
     told = []
     with tempfile.TemporaryDirectory() as folder:
         for pack in packs(data):
@@ -394,7 +397,7 @@ def lines_of(program, data):
     assert len(told) == len(lines), (len(told), len(lines))
     wrong = [(one.hex(), line, other) for one, line, other in zip(data, lines, told) if line != other]
     for one in wrong[:10]:
-        print("the program and expected/boxes.py differ:", *one, sep="\n  ")
+        print("the program and the second implementation differ:", *one, sep="\n  ")
     if wrong:
         sys.exit(1)
     return told

@@ -18,7 +18,6 @@ use Rattle.moofs.specs.Moofs.{All, all, refused, Fragment, fragmentsOf, allRuns
 use Rattle.payloads.specs.Payloads.{payloadsFrom}
 use Rattle.follows.specs.Fragments.{moofsOf}
 use Rattle.opening.specs.Opening.{refusalOf}
-use Rattle.sweeps.specs.Tracks.{samplesBy}
 use Rattle.verdicts.specs.Findings.{Track, track}
 use Rattle.verdicts.specs.Sweep.{total, bytes}
 use Rattle.verdicts.specs.Fragments.{Moof}
@@ -31,7 +30,7 @@ use Rattle.verdicts.specs.declared.Audited.{Audited}
 use Rattle.verdicts.specs.declared.Audited.the-variants.{Clean, Found, Refused}
 use Rattle.verdicts.proofs.Clean.{audit-sound, audit-complete, audit-numbers, audit-bytes, audit-rises}
 use Rattle.verdicts.proofs.Order.{FirstIn, audit-first}
-use Rattle.movie.specs.Movie.{Movie, movieOf, isFragmented, tracksBy, tracksOf, refusalIn}
+use Rattle.movie.specs.Movie.{Movie, movieOf, isFragmented, tracksBy, tracksOf, refusalIn, samplesBy}
 use Rattle.audit.specs.Boxes.{boxesOf, countOf, scannedOf}
 use Rattle.audit.specs.File.{firstTraks, numbersOf, tablesIn, Opened, is, isNot, withAll, movieIn, unlessRefused, openOf, answerTo, auditFile}
 use Rattle.audit.specs.Meaning.{Witnessed}

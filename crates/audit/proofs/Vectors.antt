@@ -20,7 +20,8 @@ use Rattle.places.specs.Kinds.{ftyp, moov, mvhd, trak, tkhd, mdia, mdhd, hdlr, 
 use Rattle.places.specs.Places.{places, listed}
 use Rattle.tree.specs.Walk.{siblings, kidsOf}
 use Rattle.tree.specs.Tables.{puts}
-use Rattle.readers.specs.Readers.{readers, pick}
+use Rattle.codings.specs.Codings.{pick, codings}
+use Rattle.readers.specs.Readers.{readers}
 use Rattle.keys.specs.Key.{keys, pickKey}
 use Rattle.kin.specs.Before.{some, sum}
 use Rattle.inside.specs.Inside.{nextIn, child}
@@ -90,17 +91,17 @@ abbrev case2 : ℕ → ℕ → List ℕ
 case2 media third = file media (track 1 1000 (times 3 ++ spread ++ chunks third))
 
 pub case-2 : auditFile (case2 210 148) ≡ Clean 1 6 210
-unfolding be bytes field when places listed siblings kidsOf puts scannedOf boxesOf ruleOf one decode cutOf widthOf allowedOf lastOf cellsOf entriesOf readers pick keys pickKey some sum nextIn child first each needed inStbl inMinf inMdia inTrak inFile firstFault refusalOf rowsBy spansBy tablesOf pairAt groupAt offsetAt sizeAt numberAt fragmentsIn signed agreeOf refusalIn questions auditOf sweepFrom
+unfolding be bytes field when places listed siblings kidsOf puts scannedOf boxesOf ruleOf one decode cutOf widthOf allowedOf lastOf cellsOf entriesOf readers codings pick keys pickKey some sum nextIn child first each needed inStbl inMinf inMdia inTrak inFile firstFault refusalOf rowsBy spansBy tablesOf pairAt groupAt offsetAt sizeAt numberAt fragmentsIn signed agreeOf refusalIn questions auditOf sweepFrom
 case-2 = computed (case2 210 148) ∙ refl
 
 -- one media byte more: nothing claims it
 pub case-2-hole : auditFile (case2 211 148) ≡ finding 6 0 0 258 (pos 0)
-unfolding be bytes field when places listed siblings kidsOf puts scannedOf boxesOf ruleOf one decode cutOf widthOf allowedOf lastOf cellsOf entriesOf readers pick keys pickKey some sum nextIn child first each needed inStbl inMinf inMdia inTrak inFile firstFault refusalOf rowsBy spansBy tablesOf pairAt groupAt offsetAt sizeAt numberAt fragmentsIn signed agreeOf refusalIn questions auditOf sweepFrom
+unfolding be bytes field when places listed siblings kidsOf puts scannedOf boxesOf ruleOf one decode cutOf widthOf allowedOf lastOf cellsOf entriesOf readers codings pick keys pickKey some sum nextIn child first each needed inStbl inMinf inMdia inTrak inFile firstFault refusalOf rowsBy spansBy tablesOf pairAt groupAt offsetAt sizeAt numberAt fragmentsIn signed agreeOf refusalIn questions auditOf sweepFrom
 case-2-hole = computed (case2 211 148) ∙ refl
 
 -- chunk 3 one byte earlier: its sample begins in the one before
 pub case-2-overlap : auditFile (case2 210 147) ≡ finding 5 1 5 147 (pos 0)
-unfolding be bytes field when places listed siblings kidsOf puts scannedOf boxesOf ruleOf one decode cutOf widthOf allowedOf lastOf cellsOf entriesOf readers pick keys pickKey some sum nextIn child first each needed inStbl inMinf inMdia inTrak inFile firstFault refusalOf rowsBy spansBy tablesOf pairAt groupAt offsetAt sizeAt numberAt fragmentsIn signed agreeOf refusalIn questions auditOf sweepFrom
+unfolding be bytes field when places listed siblings kidsOf puts scannedOf boxesOf ruleOf one decode cutOf widthOf allowedOf lastOf cellsOf entriesOf readers codings pick keys pickKey some sum nextIn child first each needed inStbl inMinf inMdia inTrak inFile firstFault refusalOf rowsBy spansBy tablesOf pairAt groupAt offsetAt sizeAt numberAt fragmentsIn signed agreeOf refusalIn questions auditOf sweepFrom
 case-2-overlap = computed (case2 210 147) ∙ refl
 
 -- so neither an open that refuses every file nor an audit that finds every file clean meets the definition
@@ -112,7 +113,7 @@ not-always-clean a b c e = let z = sym case-2-hole ∙ e in let y : _≡_ {A = �
 
 -- a second track whose tables count one sample less
 second-differs : auditFile (file 210 (track 1 1000 (times 3 ++ spread ++ chunks 148) ++ track 2 1000 (times 2 ++ spread ++ chunks 148))) ≡ finding 1 2 0 0 (pos 0)
-unfolding be bytes field when places listed siblings kidsOf puts scannedOf boxesOf ruleOf one decode cutOf widthOf allowedOf lastOf cellsOf entriesOf readers pick keys pickKey some sum nextIn child first each needed inStbl inMinf inMdia inTrak inFile firstFault refusalOf rowsBy spansBy tablesOf pairAt groupAt offsetAt sizeAt numberAt fragmentsIn signed agreeOf refusalIn questions auditOf sweepFrom
+unfolding be bytes field when places listed siblings kidsOf puts scannedOf boxesOf ruleOf one decode cutOf widthOf allowedOf lastOf cellsOf entriesOf readers codings pick keys pickKey some sum nextIn child first each needed inStbl inMinf inMdia inTrak inFile firstFault refusalOf rowsBy spansBy tablesOf pairAt groupAt offsetAt sizeAt numberAt fragmentsIn signed agreeOf refusalIn questions auditOf sweepFrom
 second-differs = computed (file 210 (track 1 1000 (times 3 ++ spread ++ chunks 148) ++ track 2 1000 (times 2 ++ spread ++ chunks 148))) ∙ refl
 
 -- REFUSALS, of files like that of case 2
@@ -120,15 +121,15 @@ second-differs = computed (file 210 (track 1 1000 (times 3 ++ spread ++ chunks 1
 -- what is wrong in a box goes before what is wrong behind it: a timescale of 0, then a header that is cut; and both before
 -- a box that is missing
 content-first : auditFile (file 210 (track 1 0 (times 3 ++ spread ++ chunks 148)) ++ replicate 3 0) ≡ Refused (refusal 8 402)
-unfolding be bytes field when places listed siblings kidsOf puts scannedOf boxesOf ruleOf one decode cutOf widthOf allowedOf lastOf cellsOf entriesOf readers pick keys pickKey some sum nextIn child first each needed inStbl inMinf inMdia inTrak inFile firstFault refusalOf rowsBy spansBy tablesOf pairAt groupAt offsetAt sizeAt numberAt fragmentsIn signed agreeOf refusalIn questions auditOf sweepFrom
+unfolding be bytes field when places listed siblings kidsOf puts scannedOf boxesOf ruleOf one decode cutOf widthOf allowedOf lastOf cellsOf entriesOf readers codings pick keys pickKey some sum nextIn child first each needed inStbl inMinf inMdia inTrak inFile firstFault refusalOf rowsBy spansBy tablesOf pairAt groupAt offsetAt sizeAt numberAt fragmentsIn signed agreeOf refusalIn questions auditOf sweepFrom
 content-first = computed (file 210 (track 1 0 (times 3 ++ spread ++ chunks 148)) ++ replicate 3 0) ∙ refl
 
 then-header : auditFile (file 210 (track 1 1000 (times 3 ++ spread)) ++ replicate 3 0) ≡ Refused (refusal 1 602)
-unfolding be bytes field when places listed siblings kidsOf puts scannedOf boxesOf ruleOf one decode cutOf widthOf allowedOf lastOf cellsOf entriesOf readers pick keys pickKey some sum nextIn child first each needed inStbl inMinf inMdia inTrak inFile firstFault refusalOf rowsBy spansBy tablesOf pairAt groupAt offsetAt sizeAt numberAt fragmentsIn signed agreeOf refusalIn questions auditOf sweepFrom
+unfolding be bytes field when places listed siblings kidsOf puts scannedOf boxesOf ruleOf one decode cutOf widthOf allowedOf lastOf cellsOf entriesOf readers codings pick keys pickKey some sum nextIn child first each needed inStbl inMinf inMdia inTrak inFile firstFault refusalOf rowsBy spansBy tablesOf pairAt groupAt offsetAt sizeAt numberAt fragmentsIn signed agreeOf refusalIn questions auditOf sweepFrom
 then-header = computed (file 210 (track 1 1000 (times 3 ++ spread)) ++ replicate 3 0) ∙ refl
 
 then-missing : auditFile (file 210 (track 1 1000 (times 3 ++ spread))) ≡ Refused (refusal 5 stco)
-unfolding be bytes field when places listed siblings kidsOf puts scannedOf boxesOf ruleOf one decode cutOf widthOf allowedOf lastOf cellsOf entriesOf readers pick keys pickKey some sum nextIn child first each needed inStbl inMinf inMdia inTrak inFile firstFault refusalOf rowsBy spansBy tablesOf pairAt groupAt offsetAt sizeAt numberAt fragmentsIn signed agreeOf refusalIn questions auditOf sweepFrom
+unfolding be bytes field when places listed siblings kidsOf puts scannedOf boxesOf ruleOf one decode cutOf widthOf allowedOf lastOf cellsOf entriesOf readers codings pick keys pickKey some sum nextIn child first each needed inStbl inMinf inMdia inTrak inFile firstFault refusalOf rowsBy spansBy tablesOf pairAt groupAt offsetAt sizeAt numberAt fragmentsIn signed agreeOf refusalIn questions auditOf sweepFrom
 then-missing = computed (file 210 (track 1 1000 (times 3 ++ spread))) ∙ refl
 
 abbrev empty : List ℕ
@@ -136,11 +137,11 @@ empty = of moof (box mfhd 0 0 (words (1 ∷ [])))
 
 -- a moof behind samples in the moov is 10; where one of these samples does not fit, that is 9, and comes before
 mixed : auditFile (case2 210 148 ++ empty) ≡ Refused (refusal 10 0)
-unfolding be bytes field when places listed siblings kidsOf puts scannedOf boxesOf ruleOf one decode cutOf widthOf allowedOf lastOf cellsOf entriesOf readers pick keys pickKey some sum nextIn child first each needed inStbl inMinf inMdia inTrak inFile firstFault refusalOf trackFrom trexOf neededTrex inTraf inMoof runOf runsIn values.ownOf values.durationAt values.sizeAt values.flagsBy sampleAt runSamples bytesIn durationsIn countOf mine gapOf optional rowsBy spansBy tablesOf pairAt groupAt offsetAt sizeAt numberAt fragmentsIn signed agreeOf refusalIn questions auditOf sweepFrom
+unfolding be bytes field when places listed siblings kidsOf puts scannedOf boxesOf ruleOf one decode cutOf widthOf allowedOf lastOf cellsOf entriesOf readers codings pick keys pickKey some sum nextIn child first each needed inStbl inMinf inMdia inTrak inFile firstFault refusalOf trackFrom trexOf neededTrex inTraf inMoof runOf runsIn values.ownOf values.durationAt values.sizeAt values.flagsBy sampleAt runSamples bytesIn durationsIn countOf mine gapOf optional rowsBy spansBy tablesOf pairAt groupAt offsetAt sizeAt numberAt fragmentsIn signed agreeOf refusalIn questions auditOf sweepFrom
 mixed = computed (case2 210 148 ++ empty) ∙ refl
 
 over-first : auditFile (file 210 (track 1 1000 (times 3 ++ spread ++ box co64 0 0 (words (4 ∷ []) ++ bytes 8 48 ++ bytes 8 78 ++ bytes 8 148 ++ replicate 8 255))) ++ empty) ≡ Refused (refusal 9 0)
-unfolding be bytes field when places listed siblings kidsOf puts scannedOf boxesOf ruleOf one decode cutOf widthOf allowedOf lastOf cellsOf entriesOf readers pick keys pickKey some sum nextIn child first each needed inStbl inMinf inMdia inTrak inFile firstFault refusalOf trackFrom trexOf neededTrex inTraf inMoof runOf runsIn values.ownOf values.durationAt values.sizeAt values.flagsBy sampleAt runSamples bytesIn durationsIn countOf mine gapOf optional rowsBy spansBy tablesOf pairAt groupAt offsetAt sizeAt numberAt fragmentsIn signed agreeOf refusalIn questions auditOf sweepFrom
+unfolding be bytes field when places listed siblings kidsOf puts scannedOf boxesOf ruleOf one decode cutOf widthOf allowedOf lastOf cellsOf entriesOf readers codings pick keys pickKey some sum nextIn child first each needed inStbl inMinf inMdia inTrak inFile firstFault refusalOf trackFrom trexOf neededTrex inTraf inMoof runOf runsIn values.ownOf values.durationAt values.sizeAt values.flagsBy sampleAt runSamples bytesIn durationsIn countOf mine gapOf optional rowsBy spansBy tablesOf pairAt groupAt offsetAt sizeAt numberAt fragmentsIn signed agreeOf refusalIn questions auditOf sweepFrom
 over-first = computed (file 210 (track 1 1000 (times 3 ++ spread ++ box co64 0 0 (words (4 ∷ []) ++ bytes 8 48 ++ bytes 8 78 ++ bytes 8 148 ++ replicate 8 255))) ++ empty) ∙ refl
 
 -- CASES 7 AND 8: a track with no samples in the moov, and two fragments with an mdat each
@@ -163,17 +164,17 @@ fragment number time n =
     ++ of mdat (replicate (10 * n) 0)
 
 pub case-7 : auditFile (start ++ fragment 1 9000 3 ++ fragment 2 18000 1) ≡ Clean 1 4 40
-unfolding be bytes field when places listed siblings kidsOf puts scannedOf boxesOf ruleOf one decode cutOf widthOf allowedOf lastOf cellsOf entriesOf readers pick keys pickKey some sum nextIn child first each needed inStbl inMinf inMdia inTrak inFile firstFault refusalOf trackFrom trexOf neededTrex inTraf inMoof runOf runsIn values.ownOf values.durationAt values.sizeAt values.flagsBy sampleAt runSamples bytesIn durationsIn countOf mine gapOf optional rowsBy spansBy tablesOf pairAt groupAt offsetAt sizeAt numberAt fragmentsIn signed agreeOf refusalIn questions auditOf sweepFrom
+unfolding be bytes field when places listed siblings kidsOf puts scannedOf boxesOf ruleOf one decode cutOf widthOf allowedOf lastOf cellsOf entriesOf readers codings pick keys pickKey some sum nextIn child first each needed inStbl inMinf inMdia inTrak inFile firstFault refusalOf trackFrom trexOf neededTrex inTraf inMoof runOf runsIn values.ownOf values.durationAt values.sizeAt values.flagsBy sampleAt runSamples bytesIn durationsIn countOf mine gapOf optional rowsBy spansBy tablesOf pairAt groupAt offsetAt sizeAt numberAt fragmentsIn signed agreeOf refusalIn questions auditOf sweepFrom
 case-7 = computed (start ++ fragment 1 9000 3 ++ fragment 2 18000 1) ∙ refl
 
 pub case-7-gap : auditFile (start ++ fragment 1 9000 3 ++ fragment 2 17999 1) ≡ finding 8 1 0 526 (negsuc 0)
-unfolding be bytes field when places listed siblings kidsOf puts scannedOf boxesOf ruleOf one decode cutOf widthOf allowedOf lastOf cellsOf entriesOf readers pick keys pickKey some sum nextIn child first each needed inStbl inMinf inMdia inTrak inFile firstFault refusalOf trackFrom trexOf neededTrex inTraf inMoof runOf runsIn values.ownOf values.durationAt values.sizeAt values.flagsBy sampleAt runSamples bytesIn durationsIn countOf mine gapOf optional rowsBy spansBy tablesOf pairAt groupAt offsetAt sizeAt numberAt fragmentsIn signed agreeOf refusalIn questions auditOf sweepFrom
+unfolding be bytes field when places listed siblings kidsOf puts scannedOf boxesOf ruleOf one decode cutOf widthOf allowedOf lastOf cellsOf entriesOf readers codings pick keys pickKey some sum nextIn child first each needed inStbl inMinf inMdia inTrak inFile firstFault refusalOf trackFrom trexOf neededTrex inTraf inMoof runOf runsIn values.ownOf values.durationAt values.sizeAt values.flagsBy sampleAt runSamples bytesIn durationsIn countOf mine gapOf optional rowsBy spansBy tablesOf pairAt groupAt offsetAt sizeAt numberAt fragmentsIn signed agreeOf refusalIn questions auditOf sweepFrom
 case-7-gap = computed (start ++ fragment 1 9000 3 ++ fragment 2 17999 1) ∙ refl
 
 pub case-8 : auditFile (start ++ fragment 4294967295 0 1 ++ fragment 0 3000 1) ≡ Clean 1 2 20
-unfolding be bytes field when places listed siblings kidsOf puts scannedOf boxesOf ruleOf one decode cutOf widthOf allowedOf lastOf cellsOf entriesOf readers pick keys pickKey some sum nextIn child first each needed inStbl inMinf inMdia inTrak inFile firstFault refusalOf trackFrom trexOf neededTrex inTraf inMoof runOf runsIn values.ownOf values.durationAt values.sizeAt values.flagsBy sampleAt runSamples bytesIn durationsIn countOf mine gapOf optional rowsBy spansBy tablesOf pairAt groupAt offsetAt sizeAt numberAt fragmentsIn signed agreeOf refusalIn questions auditOf sweepFrom
+unfolding be bytes field when places listed siblings kidsOf puts scannedOf boxesOf ruleOf one decode cutOf widthOf allowedOf lastOf cellsOf entriesOf readers codings pick keys pickKey some sum nextIn child first each needed inStbl inMinf inMdia inTrak inFile firstFault refusalOf trackFrom trexOf neededTrex inTraf inMoof runOf runsIn values.ownOf values.durationAt values.sizeAt values.flagsBy sampleAt runSamples bytesIn durationsIn countOf mine gapOf optional rowsBy spansBy tablesOf pairAt groupAt offsetAt sizeAt numberAt fragmentsIn signed agreeOf refusalIn questions auditOf sweepFrom
 case-8 = computed (start ++ fragment 4294967295 0 1 ++ fragment 0 3000 1) ∙ refl
 
 pub case-8-break : auditFile (start ++ fragment 4294967295 0 1 ++ fragment 1 3000 1) ≡ finding 7 0 0 490 (pos 0)
-unfolding be bytes field when places listed siblings kidsOf puts scannedOf boxesOf ruleOf one decode cutOf widthOf allowedOf lastOf cellsOf entriesOf readers pick keys pickKey some sum nextIn child first each needed inStbl inMinf inMdia inTrak inFile firstFault refusalOf trackFrom trexOf neededTrex inTraf inMoof runOf runsIn values.ownOf values.durationAt values.sizeAt values.flagsBy sampleAt runSamples bytesIn durationsIn countOf mine gapOf optional rowsBy spansBy tablesOf pairAt groupAt offsetAt sizeAt numberAt fragmentsIn signed agreeOf refusalIn questions auditOf sweepFrom
+unfolding be bytes field when places listed siblings kidsOf puts scannedOf boxesOf ruleOf one decode cutOf widthOf allowedOf lastOf cellsOf entriesOf readers codings pick keys pickKey some sum nextIn child first each needed inStbl inMinf inMdia inTrak inFile firstFault refusalOf trackFrom trexOf neededTrex inTraf inMoof runOf runsIn values.ownOf values.durationAt values.sizeAt values.flagsBy sampleAt runSamples bytesIn durationsIn countOf mine gapOf optional rowsBy spansBy tablesOf pairAt groupAt offsetAt sizeAt numberAt fragmentsIn signed agreeOf refusalIn questions auditOf sweepFrom
 case-8-break = computed (start ++ fragment 4294967295 0 1 ++ fragment 1 3000 1) ∙ refl

@@ -5,7 +5,8 @@ use mathlib.Core.Logic.{⊎-elim}
 use mathlib.Core.Bool.{false}
 use Prim.Native.Nat.{ℕ, zero, suc, _+_, _-_}
 use native.Mathlib.Omega.{arith}
-use lib.ListN.{length}
+use lib.ListN.{length, take}
+use lib.Seq.{take-length}
 use lib.Dec.{eqb, ltb}
 use borrow.Author.Tests.{eqb-true}
 use Rattle.numbers.specs.Field.{when}
@@ -14,12 +15,14 @@ use Rattle.boxes.specs.Header.{headerOf}
 use Rattle.boxes.specs.declared.header.Header.{Header}
 use Rattle.boxes.specs.declared.header.Found.{Found}
 use Rattle.boxes.specs.declared.header.Found.the-variants as found
+use Rattle.boxes.proofs.Within.{Within, header-within}
 use Rattle.rows.specs.declared.Judged.the-variants.{Fine}
-use Rattle.children.specs.Children.{Row, end, fault, box, headed, rowOf, firstIn, wholeIn, placed}
+use Rattle.children.specs.Children.{Row, end, fault, box, headed, rowOf, firstIn, wholeIn, placed, boxed, bytesOf, childOf}
 use Rattle.children.specs.declared.Child.{Child}
 use Rattle.children.specs.declared.Child.the-variants as child
 use Rattle.children.specs.declared.Place.{Place}
 use Rattle.children.specs.declared.Place.the-variants as place
+use Rattle.children.proofs.Turns.{is-first}
 
 abbrev told : Place → Child
 told (place.At p) = child.At p
@@ -53,3 +56,10 @@ module _ (s : List ℕ) (kind p : ℕ) where
       ⊎-elim (λ y. at-header at (rowOf f s) (headerOf s at false) refl (λ q. found-there f q) (y .1))
       (λ y. let z : _≡_ {A = ℕ} 0 1 = cc in absurd (omega arith))
       (way (ltb at (length s)) _ _ _ (sym (through (firstIn kind) (ltb at (length s)) (headed at (rowOf f s) (headerOf s at false)) end) ∙ e))
+
+-- BYTES THAT ARE ONE BOX OF A TYPE are its first box themselves
+pub child-alone : (kind : ℕ) (b : List ℕ) (h : Header) → headerOf b 0 false ≡ found.Is h → h .kind ≡ kind → h .size ≡ length b → childOf kind b ≡ b
+child-alone kind b h e k s =
+    let w : Within b 0 h = header-within b 0 h false e in
+    sym (ap (bytesOf b) (is-first b (length b) 0 (omega (arith, w .some, w .whole, s)) (omega arith) kind h e k))
+    ∙ ap (boxed b 0) e ∙ ap (λ n. take n b) s ∙ take-length b

@@ -17,7 +17,7 @@ use Rattle.boxes.specs.declared.header.Found.the-variants as found
 use Rattle.boxes.proofs.Within.{Within, header-within}
 use Rattle.layout.specs.declared.read.Fields.{Fields}
 use Rattle.rows.specs.declared.Judged.the-variants.{Fine, Wrong}
-use Rattle.children.specs.Children.{end, fault, box, headed, rowOf, firstIn, wholeIn, inside}
+use Rattle.children.specs.Children.{end, fault, box, headed, rowOf, firstIn, nthIn, wholeIn, inside, bytesOf, childOf}
 use Rattle.children.specs.declared.Child.{Child}
 use Rattle.children.specs.declared.Child.the-variants as child
 
@@ -83,6 +83,21 @@ module _ (s : List ℕ) where
         let p = passed x e in
         (p .0, p .1, is-ne (child.At at) _ _ (x .kind) kind k refl ∙ sym (ap (firstIn kind) (p .2)) ∙ i)
 
+    pub nth-fault : (i : ℕ) (q : Refusal) → headerOf s at false ≡ found.Refused q → child.Refused q ≡ nthIn i (rowOf f s at)
+    unfolding nthIn
+    nth-fault i q e = sym (ap (nthIn i) (broken q e))
+
+    pub is-nth : (i : ℕ) (x : Header) → headerOf s at false ≡ found.Is x → i ≡ 0 → child.At at ≡ nthIn i (rowOf f s at)
+    unfolding nthIn
+    is-nth i x e k = let p = passed x e in is-eq _ (nthIn (i - 1) (rowOf (p .0) s (at + x .size))) _ i 0 k refl ∙ sym (ap (nthIn i) (p .2))
+
+    pub not-nth : (i : ℕ) (x : Header) → headerOf s at false ≡ found.Is x → (i ≡ 0 → ⊥) → (z : Child) → nthIn i (rowOf f s at) ≡ z →
+        (g : ℕ) × (length s - (at + x .size) ≤ g) × (nthIn (i - 1) (rowOf g s (at + x .size)) ≡ z)
+    unfolding nthIn
+    not-nth i x e k z j =
+        let p = passed x e in
+        (p .0, p .1, is-ne (child.At at) _ _ i 0 k refl ∙ sym (ap (nthIn i) (p .2)) ∙ j)
+
     pub whole-fault : (q : Refusal) → headerOf s at false ≡ found.Refused q → Wrong q ≡ wholeIn (rowOf f s at)
     unfolding wholeIn
     whole-fault q e = sym (ap wholeIn (broken q e))
@@ -95,6 +110,14 @@ module _ (s : List ℕ) where
   pub none-first : (f at kind : ℕ) → length s ≤ at → child.Absent ≡ firstIn kind (rowOf f s at)
   unfolding firstIn
   none-first f at kind h = sym (ap (firstIn kind) (spent f at h))
+
+  pub none-nth : (f at i : ℕ) → length s ≤ at → child.Absent ≡ nthIn i (rowOf f s at)
+  unfolding nthIn
+  none-nth f at i h = sym (ap (nthIn i) (spent f at h))
+
+  -- a box that was looked for from the first byte on
+  pub looked-for : (kind : ℕ) (c : Child) → c ≡ firstIn kind (rowOf (length s - 0) s 0) → bytesOf s c ≡ childOf kind s
+  looked-for kind c e = ap (bytesOf s) (e ∙ ap (firstIn kind) (enough (length s - 0) (length s) 0 (omega arith) (omega arith)))
 
   pub all-whole : (f at : ℕ) → length s ≤ at → Fine ≡ wholeIn (rowOf f s at)
   unfolding wholeIn

@@ -11,7 +11,7 @@ use Rattle.layout.specs.Rule.{ruleOf}
 use Rattle.layout.specs.Read.{one, decode}
 use Rattle.layout.specs.Write.{lay, encode}
 use Rattle.rows.specs.declared.Judged.the-variants.{Fine, Wrong}
-use Rattle.children.specs.Children.{rowOf, firstIn, wholeIn, firstOf, wholeOf, placeOf, contentOf, containerIn}
+use Rattle.children.specs.Children.{rowOf, firstIn, nthIn, wholeIn, firstOf, wholeOf, placeOf, contentOf, containerIn, childOf, nthOf}
 use Rattle.children.specs.declared.Child.the-variants.{Absent, At, Refused}
 use Rattle.children.specs.declared.Place.the-variants as place
 use Rattle.children.proofs.Example.{of}
@@ -112,6 +112,45 @@ child-to-the-end = refl
 cut : wholeOf home (of home (of a [] ++ bytes 3 0)) ≡ Wrong (refusal 1 16)
 unfolding be bytes field when ruleOf one decode rowOf firstIn wholeIn
 cut = refl
+
+-- the first box of a type in bytes that are boxes, whole
+first-box-a : childOf a several ≡ of a (1 ∷ [])
+unfolding be bytes field when rowOf firstIn
+first-box-a = refl
+
+first-box-b : childOf b several ≡ of b []
+unfolding be bytes field when rowOf firstIn
+first-box-b = refl
+
+no-box : childOf k several ≡ []
+unfolding be bytes field when rowOf firstIn
+no-box = refl
+
+-- a fault comes before it: a size of 7
+box-behind-fault : childOf b (of a [] ++ bytes 4 7 ++ bytes 4 k ++ of b []) ≡ []
+unfolding be bytes field when rowOf firstIn
+box-behind-fault = refl
+
+box-before-fault : childOf a (of a [] ++ bytes 4 7 ++ bytes 4 k ++ of b []) ≡ of a []
+unfolding be bytes field when rowOf firstIn
+box-before-fault = refl
+
+-- the i-th, counted from 0
+box-0 : nthOf 0 several ≡ of a (1 ∷ [])
+unfolding be bytes field when rowOf nthIn
+box-0 = refl
+
+box-2 : nthOf 2 several ≡ of a []
+unfolding be bytes field when rowOf nthIn
+box-2 = refl
+
+no-box-3 : nthOf 3 several ≡ []
+unfolding be bytes field when rowOf nthIn
+no-box-3 = refl
+
+nth-behind-fault : nthOf 2 (of a [] ++ bytes 4 7 ++ bytes 4 k ++ of b []) ≡ []
+unfolding be bytes field when rowOf nthIn
+nth-behind-fault = refl
 
 -- the children's bytes, and a box around them
 content : contentOf home (of home several ++ of k []) ≡ several

@@ -3,7 +3,7 @@
 use Prim.Native.Nat.{ℕ, zero, suc, _+_, _-_}
 use mathlib.Core.List.{List, []}
 use mathlib.Core.Bool.{false}
-use lib.ListN.{length, take}
+use lib.ListN.{length, take, drop}
 use lib.Dec.{eqb, ltb}
 use Rattle.numbers.specs.Field.{refusal, when}
 use Rattle.numbers.specs.declared.Refusal.{Refusal}
@@ -45,6 +45,12 @@ firstIn kind end = child.Absent
 firstIn kind (fault q) = child.Refused q
 firstIn kind (box k at row) = when (eqb k kind) (child.At at) (firstIn kind row)
 
+-- the i-th, counted from 0, unless a fault comes before it
+unfoldable pub nthIn : ℕ → Row → Child
+nthIn i end = child.Absent
+nthIn i (fault q) = child.Refused q
+nthIn i (box k at row) = when (eqb i 0) (child.At at) (nthIn (i - 1) row)
+
 -- the first fault
 unfoldable pub wholeIn : Row → Judged
 wholeIn end = Fine
@@ -83,3 +89,21 @@ contentOf parent part = restOf (readOf parent fields part) part
 
 abbrev pub containerIn : ℕ → List ℕ → List ℕ → Wrote
 containerIn parent children out = writeOf parent fields (zeros 24) children out
+
+-- the bytes of a box, from its header at `at` to its end
+abbrev pub boxed : List ℕ → ℕ → Found → List ℕ
+boxed s at (found.Is h) = take (h .size) (drop at s)
+boxed s at (found.Refused q) = []
+
+-- of a box that was found in bytes that are boxes; none where it was not
+abbrev pub bytesOf : List ℕ → Child → List ℕ
+bytesOf s (child.At p) = boxed s p (headerOf s p false)
+bytesOf s child.Absent = []
+bytesOf s (child.Refused q) = []
+
+-- the first of a type, and the i-th
+abbrev pub childOf : ℕ → List ℕ → List ℕ
+childOf kind s = bytesOf s (firstIn kind (rowOf (length s) s 0))
+
+abbrev pub nthOf : ℕ → List ℕ → List ℕ
+nthOf i s = bytesOf s (nthIn i (rowOf (length s) s 0))

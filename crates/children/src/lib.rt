@@ -3,8 +3,10 @@
 ghost use mathlib.Core.Path.{_≡_};
 ghost use Prim.Native.Nat.{_-_};
 ghost use lib.ListN.{length};
+ghost use mathlib.Core.Bool.{false};
 ghost use Rattle.put.specs.Put.{wrote};
-ghost use Rattle.children.specs.Children.{rowOf, firstIn, wholeIn, firstOf, wholeOf, placeOf, contentOf, containerIn};
+ghost use Rattle.boxes.specs.Header.{headerOf};
+ghost use Rattle.children.specs.Children.{rowOf, firstIn, wholeIn, firstOf, wholeOf, placeOf, contentOf, containerIn, boxed, nthIn, childOf, nthOf};
 use boxes::header;
 use boxes::header::Found;
 use layout::Field;
@@ -54,7 +56,7 @@ const ROW: [Field; 24] = [
 ];
 
 // The first box of this type from `from` on, in the bytes of a box up to its end.
-fn first_from(s: &[u8], from: usize, kind: u32) -> Child
+pub fn first_from(s: &[u8], from: usize, kind: u32) -> Child
     ensures { λ r. ⌜ r ≡ firstIn kind (rowOf (length (now (s .entry)) - from) (now (s .entry)) from) ⌝ }
 {
     let mut at = from;
@@ -68,6 +70,29 @@ fn first_from(s: &[u8], from: usize, kind: u32) -> Child
                     return Child::At(at);
                 }
                 at = at + h.size;
+            }
+        }
+    }
+    Child::Absent
+}
+
+// The box that is `i` boxes behind the first byte.
+fn nth_place(s: &[u8], i: u32) -> Child
+    ensures { λ r. ⌜ r ≡ nthIn i (rowOf (length (now (s .entry))) (now (s .entry)) 0) ⌝ }
+{
+    let mut place = 0;
+    let mut left = i;
+    while place < s.len() {
+        match header::read(s, place, false) {
+            Found::Refused(fault) => {
+                return Child::Refused(fault);
+            }
+            Found::Is(h) => {
+                if left == 0 {
+                    return Child::At(place);
+                }
+                left = left - 1;
+                place = place + h.size;
             }
         }
     }
@@ -147,4 +172,40 @@ pub fn around(children: &[u8], parent: u32, out: &mut [u8]) -> Put
     ensures { λ r. ⌜ wrote r (now (out .exit)) ≡ containerIn parent (now (children .entry)) (now (out .entry)) ⌝ }
 {
     layout::write::by(out, parent, ROW, [0; 24], children)
+}
+
+// The bytes of the box at `at`, from its header to its end; no bytes where its header is refused.
+fn box_at(s: &[u8], at: usize) -> &[u8]
+    ensures { λ r. ⌜ now r ≡ boxed (now (s .entry)) at (headerOf (now (s .entry)) at false) ⌝ }
+{
+    match header::read(s, at, false) {
+        Found::Is(h) => {
+            let size = h.size;
+            parts::part(s, at, size)
+        }
+        Found::Refused(_) => &s[..0],
+    }
+}
+
+// The first box of this type in bytes that are boxes, as the part where it lies, from its header to its end; no bytes
+// where there is none, or where a fault comes before it.
+pub fn first_box(s: &[u8], kind: u32) -> &[u8]
+    ensures { λ r. ⌜ now r ≡ childOf kind (now (s .entry)) ⌝ }
+{
+    match first_from(s, 0, kind) {
+        Child::At(p) => box_at(s, p),
+        Child::Absent => &s[..0],
+        Child::Refused(_) => &s[..0],
+    }
+}
+
+// The same of the i-th box, counted from 0.
+pub fn nth_box(s: &[u8], i: u32) -> &[u8]
+    ensures { λ r. ⌜ now r ≡ nthOf i (now (s .entry)) ⌝ }
+{
+    match nth_place(s, i) {
+        Child::At(place) => box_at(s, place),
+        Child::Absent => &s[..0],
+        Child::Refused(_) => &s[..0],
+    }
 }

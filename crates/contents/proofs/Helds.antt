@@ -10,8 +10,10 @@ use Rattle.numbers.specs.Field.{when}
 use Rattle.numbers.proofs.Chain.{by-true, by-false, is-lt, not-lt}
 use Rattle.places.specs.Kinds.{tfhd}
 use Rattle.rows.specs.declared.Judged.the-variants.{Fine}
-use Rattle.readers.specs.Readers.{Reader, readers, pick, faultOf}
-use Rattle.readers.proofs.Picks.{further, unread}
+use Rattle.rows.specs.declared.Judged.{Judged}
+use Rattle.codings.specs.Codings.{Reader, pick, codings, codingOf}
+use Rattle.codings.proofs.Picks.{further, unread}
+use Rattle.readers.specs.Readers.{readers, faultOf}
 use Rattle.keys.proofs.Picks as key
 use Rattle.keys.specs.Key.{keys, keyOf}
 use Rattle.keys.specs.declared.Key.the-variants.{Absent}
@@ -39,15 +41,15 @@ unfolding when
 both true u e = (refl, e)
 both false u e = let z : _≡_ {A = ℕ} 0 1 = cc in absurd (omega arith)
 
-pick-none : (kind : ℕ) (part : List ℕ) (rs : List Reader) → 4294967295 < kind → typed rs ≡ true → Fine ≡ pick kind part rs
-pick-none kind part [] h e = unread kind part
-pick-none kind part (r ∷ rs) h e =
+pick-none : (other : Judged) (kind : ℕ) (part : List ℕ) (rs : List Reader) → Fine ≡ other → 4294967295 < kind → typed rs ≡ true → Fine ≡ pick other kind part rs
+pick-none other kind part [] o h e = unread other kind part Fine o
+pick-none other kind part (r ∷ rs) o h e =
     let b = both (leb (r .kind) 4294967295) (typed rs) e in
-    further kind part r rs Fine (λ q. omega (arith, leb-true (r .kind) 4294967295 (b .0))) (pick-none kind part rs h (b .1))
+    further other kind part r rs Fine (λ q. omega (arith, leb-true (r .kind) 4294967295 (b .0))) (pick-none other kind part rs o h (b .1))
 
 pub no-reader : (kind : ℕ) (part : List ℕ) → 4294967295 < kind → Fine ≡ faultOf kind part
-unfolding readers when
-no-reader kind part h = pick-none kind part readers h refl
+unfolding readers codings when
+no-reader kind part h = pick-none (codingOf kind part) kind part readers (pick-none Fine kind part codings refl h refl) h refl
 
 pub no-key : (kind : ℕ) (part : List ℕ) → 4294967295 < kind → Absent ≡ keyOf kind part
 unfolding keys

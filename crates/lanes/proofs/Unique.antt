@@ -14,6 +14,11 @@ use Rattle.lanes.specs.declared.Taken.{Taken}
 use Rattle.lanes.specs.declared.Taken.the-variants as taken
 use Rattle.lanes.proofs.start.Reads as lanes-start
 use Rattle.lanes.proofs.next.Reads as lanes-next
+use Rattle.lanes.specs.Site as site
+use Rattle.lanes.specs.declared.site.Site.{Site}
+use Rattle.lanes.specs.declared.site.Stood.the-variants as stood
+use Rattle.lanes.proofs.site.start.Reads as site-start
+use Rattle.lanes.proofs.site.next.Reads as site-next
 
 start-fixed : (κs : _) (a : _) (r q : _) (s t : _) → lanes-start.Post κs a r s → lanes-start.Post κs a q t → r ≡ q
 start-fixed κs a r q s t p o = p ∙ sym o
@@ -38,3 +43,15 @@ one-no-over f t s l e = let z : _≡_ {A = ℕ} 0 1 = cc in omega arith
 
 end-no-over : (f : List ℕ) (t : Track) → shows f t taken.End ≡ shows f t taken.Over → ⊥
 end-no-over f t e = let z : _≡_ {A = ℕ} 0 1 = cc in omega arith
+
+-- the same of the cursor of places
+
+site-start-fixed : (κs : _) (a : _) (r q : _) (s t : _) → site-start.Post κs a r s → site-start.Post κs a q t → r ≡ q
+site-start-fixed κs a r q s t p o = p ∙ sym o
+
+site-next-fixed : (κs : _) (a : _) (r q : _) (s t : _) → site-next.Post κs a r s → site-next.Post κs a q t → site.shows (now (a .0)) (a .1 .0) r ≡ site.shows (now (a .0)) (a .1 .0) q
+site-next-fixed κs a r q s t p o = p ∙ sym o
+
+site-one-fixed : (f : List ℕ) (t : Track) (n o z m p y : ℕ) (l k : Site) → site.shows f t (stood.One n o z l) ≡ site.shows f t (stood.One m p y k)
+    → (site.sample n o z ≡ site.sample m p y) × (site.left f t l ≡ site.left f t k)
+site-one-fixed f t n o z m p y l k e = (cc, cc)

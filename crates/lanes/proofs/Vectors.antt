@@ -9,7 +9,9 @@ use Rattle.samples.specs.Lists.{view, none, over, one}
 use Rattle.tables.specs.Tables.{pairAt, groupAt, offsetAt, sizeAt, numberAt}
 use Rattle.tables.proofs.Vectors.{file, track, high}
 use Rattle.lanes.specs.Lane.{runsAt, placesAt, marksLeft, syncsLeft, left, fresh}
+use Rattle.lanes.specs.Site as site
 use Rattle.lanes.specs.declared.Lane.{Lane}
+use Rattle.lanes.specs.declared.site.Site.{Site}
 
 -- two samples were given
 abbrev after-two : Lane
@@ -70,3 +72,27 @@ lane-first-held = refl
 lane-over : view (left file high after-one) ≡ over
 unfolding be bytes field when signed pairAt groupAt offsetAt sizeAt numberAt left runsAt placesAt marksLeft syncsLeft
 lane-over = refl
+
+-- PLACES ALONE
+
+abbrev site-two : Site
+site-two = record { done = 2; place = after-two .place }
+
+-- the third sample is told by its number, place and size
+site-third : view (site.left file track site-two) ≡ one (site.sample 3 78 30) (site.left file track (record { done = 3; place = after-three .place }))
+unfolding be bytes field when groupAt offsetAt sizeAt runsAt placesAt site.left
+site-third = refl
+
+site-end : view (site.left file track (record { done = 6; place = after-six .place })) ≡ none
+unfolding be bytes field when groupAt offsetAt sizeAt runsAt placesAt site.left
+site-end = refl
+
+site-over : view (site.left file high (record { done = 1; place = after-one .place })) ≡ over
+unfolding be bytes field when groupAt offsetAt sizeAt runsAt placesAt site.left
+site-over = refl
+
+-- stts has no part in it: with two samples timed, the third still has its place
+site-untimed : view (site.left file (record { stts = record { at = 0; count = 0 }; ctts = track .ctts; stsc = track .stsc; stsz = track .stsz; stco = track .stco; stss = track .stss }) site-two)
+    ≡ one (site.sample 3 78 30) (site.left file track (record { done = 3; place = after-three .place }))
+unfolding be bytes field when groupAt offsetAt sizeAt runsAt placesAt site.left
+site-untimed = refl

@@ -19,6 +19,8 @@ use tables::Optional;
 use tables::Rows;
 use tables::Track;
 
+pub mod site;
+
 // A cursor over runs: the next row, how many of the row before are left, and their value.
 pub struct Runs {
     pub next: u32,

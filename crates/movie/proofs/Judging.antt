@@ -1,7 +1,7 @@
 -- The audit of a movie from the answers of its parts. Assumes nothing.
 use Prim.Native.Nat.{ℕ, zero, suc, _+_, _≤_, _^_, min}
 use mathlib.Core.Path.{_≡_, refl, sym, ap, ap₂, _∙_}
-use mathlib.Core.List.{List, [], _∷_}
+use mathlib.Core.List.{List, [], _∷_, map}
 use mathlib.Core.Bool.{Bool, true, false, _&&_}
 use native.Mathlib.Omega.{arith}
 use lib.ListN.{length, take, drop, getD}
@@ -15,8 +15,12 @@ use Rattle.samples.specs.Lists.{allHeld}
 use Rattle.samples.specs.declared.Sample.{Sample}
 use Rattle.tables.specs.declared.Track as tables
 use Rattle.tables.specs.Samples.{samplesOf}
-use Rattle.tables.specs.Tables.{listFrom}
+use Rattle.tables.specs.Tables.{listFrom, pairs, sizeAt}
+use Rattle.tables.proofs.Lists.{length-list}
+use Rattle.tables.proofs.Lengths.{length-values}
 use Rattle.agree.specs.Agree.{agreeOf}
+use Rattle.agree.proofs.Theorems as agreement-is
+use Rattle.fragments.specs.Samples.{samplesOfRuns}
 use Rattle.runs.specs.declared.Run.{Run}
 use Rattle.mooftable.specs.declared.Moof as row
 use Rattle.verdicts.specs.Findings.{Track, track, Span, Answer, passes, found, F1, firstFound, asked}
@@ -34,9 +38,11 @@ use Rattle.passes.specs.declared.Passed.the-variants as pass
 use Rattle.follows.specs.Follows as follows
 use Rattle.follows.specs.declared.Followed.{Followed}
 use Rattle.follows.specs.declared.Followed.the-variants as follow-is
-use Rattle.sweeps.specs.Tracks.{samplesBy, tracksIn}
+use Rattle.sweeps.specs.Tracks.{placedBy, fitting, tracksIn}
 use Rattle.sweeps.proofs.Laws.{fitting-all}
-use Rattle.movie.specs.Movie.{Movie, movieOf, isFragmented, tracksBy, tracksOf, samplesFit, sumsFit, hasSamples, refusalIn, judgeOf}
+use Rattle.sweeps.proofs.Bare.{bareOf, sites-are, sweep-alike}
+use Rattle.lanes.specs.Site.{bare}
+use Rattle.movie.specs.Movie.{Movie, movieOf, isFragmented, samplesBy, tracksBy, tracksOf, samplesFit, sumsFit, hasSamples, refusalIn, judgeOf}
 use Rattle.movie.specs.declared.Sum.{Sum}
 use Rattle.movie.specs.declared.Sum.the-variants.{Is, Over}
 use Rattle.movie.specs.Inside.{agreement, agreed, passAll, isOver, firstOf, samplesIn, breaks, lastOf, orAsked, toldOf, isSome, mediaOf}
@@ -59,16 +65,22 @@ module _ (b : Bool) (f : List ℕ) (rs : List Run) where
       cases true e = (refl, e)
       cases false e = let z : _≡_ {A = ℕ} 0 1 = cc in absurd (omega arith)
 
-  -- where the tables agree and every sample fits, the sweep has the tracks as they are
-  same-tracks : (ns : List ℕ) (ts : List tables.Track) → firstFound (agreed f ns ts) ≡ passes → samplesFit b f rs ns ts ≡ true → tracksIn b f rs ns ts ≡ tracksBy b f rs ns ts
+  -- where the tables agree and every sample fits, the sweep has the places of the tracks' samples
+  same-places : (c : Bool) (n : ℕ) (t : tables.Track) → agreeOf f t ≡ true → allHeld (samplesOf f t) && allHeld (samplesBy c f t rs n) ≡ true
+      → map bare (fitting (placedBy c f t rs n)) ≡ map bare (samplesBy c f t rs n)
+  unfolding when
+  same-places true n t u h = ap (map bare) (fitting-all (samplesOfRuns f rs n) (both (allHeld (samplesOf f t)) (allHeld (samplesOfRuns f rs n)) h .1))
+  same-places false n t u h = sites-are f t (omega (arith, agreement-is.agreeing f t u .timed, length-values (pairs f (t .stts)), length-list (sizeAt f (t .stsz)) (t .stsz .count) 0)) (both (allHeld (samplesOf f t)) (allHeld (samplesOf f t)) h .0)
+
+  same-tracks : (ns : List ℕ) (ts : List tables.Track) → firstFound (agreed f ns ts) ≡ passes → samplesFit b f rs ns ts ≡ true
+      → map bareOf (tracksIn b f rs ns ts) ≡ map bareOf (tracksBy b f rs ns ts)
   same-tracks [] ts e h = refl
   same-tracks (n ∷ ns) [] e h = refl
   same-tracks (n ∷ ns) (t ∷ ts) e h =
       let (u, v) = first-agrees n t (agreed f ns ts) e in
       let (x, y) = both (allHeld (samplesOf f t) && allHeld (samplesBy b f t rs n)) (samplesFit b f rs ns ts) h in
-      let z = both (allHeld (samplesOf f t)) (allHeld (samplesBy b f t rs n)) x .1 in
-      ap₂ (λ (c : Bool) (l : List Sample). track n c l ∷ tracksIn b f rs ns ts) (sym u) (fitting-all (samplesBy b f t rs n) z)
-      ∙ ap (λ (l : List Track). track n (agreeOf f t) (samplesBy b f t rs n) ∷ l) (same-tracks ns ts v y)
+      ap₂ (λ (c : Bool) (l : List Sample). track n c l ∷ map bareOf (tracksIn b f rs ns ts)) (sym u) (same-places b n t u x)
+      ∙ ap (λ (l : List Track). track n (agreeOf f t) (map bare (samplesBy b f t rs n)) ∷ l) (same-tracks ns ts v y)
 
   same-clocks : (ns : List ℕ) (ts : List tables.Track) → length ns ≡ length ts → clocksOf (tracksBy b f rs ns ts) ≡ follows.clocks ns
   same-clocks [] ts e = refl
@@ -221,8 +233,8 @@ module _ (m : Movie) where
         only-then : (a : Answer) → agreeing ≡ a → (l : Answer) → orElse a (orElse l (orElse (sweep (m .payloads) (tracksIn b (m .file) (m .runs) (m .numbers) (m .tables))) (firstFound (follow ts (m .moofs)))))
             ≡ orElse a (orElse l (orElse (sweep (m .payloads) ts) (firstFound (follow ts (m .moofs)))))
         only-then passes q l =
-            ap (λ (x : List Track). orElse l (orElse (sweep (m .payloads) x) (firstFound (follow ts (m .moofs)))))
-            (same-tracks b (m .file) (m .runs) (m .numbers) (m .tables) (agreeing-is ∙ q) fit)
+            ap (λ (x : Answer). orElse l (orElse x (firstFound (follow ts (m .moofs)))))
+            (sweep-alike (m .payloads) (tracksIn b (m .file) (m .runs) (m .numbers) (m .tables)) ts (same-tracks b (m .file) (m .runs) (m .numbers) (m .tables) (agreeing-is ∙ q) fit))
         only-then (found x) q l = refl
 
         all-asked : orAsked (orAsked A P) (orAsked S F) ≡ asked (orElse agreeing (orElse (firstFound (passed ts)) (orElse (sweep (m .payloads) ts) (firstFound (follow ts (m .moofs))))))

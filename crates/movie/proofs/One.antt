@@ -1,4 +1,5 @@
 -- The pass over one track, and that no track has more samples than 32 bits number. Assumes nothing.
+use Rattle.movie.specs.Movie.{samplesBy}
 use Prim.Native.Nat.{ℕ, suc, _+_, _-_, _<_, _≤_, _^_}
 use mathlib.Core.Path.{_≡_, refl, sym, ap, subst, _∙_}
 use mathlib.Core.List.{List, [], _∷_}
@@ -20,7 +21,6 @@ use Rattle.verdicts.specs.Audit.{passedIn}
 use Rattle.passes.specs.Passed.{tell, passedOf}
 use Rattle.passes.specs.declared.Passed.{Passed}
 use Rattle.passes.specs.declared.Passed.the-variants.{Over}
-use Rattle.sweeps.specs.Tracks.{samplesBy}
 use Rattle.movie.specs.Inside.{passOf, Few, isOver}
 use Rattle.movie.proofs.Booleans.{both, not-true, not-false}
 

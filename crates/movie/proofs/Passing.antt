@@ -22,8 +22,7 @@ use Rattle.verdicts.proofs.Order.{orElse, first-join}
 use Rattle.passes.specs.Passed.{tell, passedOf}
 use Rattle.passes.specs.declared.Passed.{Passed}
 use Rattle.passes.specs.declared.Passed.the-variants.{Over, Fine, Found}
-use Rattle.sweeps.specs.Tracks.{samplesBy}
-use Rattle.movie.specs.Movie.{tracksBy, samplesFit}
+use Rattle.movie.specs.Movie.{tracksBy, samplesFit, samplesBy}
 use Rattle.movie.specs.Inside.{passOf, passAll, either}
 use Rattle.movie.proofs.Rows.{at-row, no-row}
 use Rattle.movie.proofs.Asked.{answerOf}

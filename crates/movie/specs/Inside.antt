@@ -18,12 +18,11 @@ use Rattle.verdicts.specs.Audit.{passed}
 use Rattle.passes.specs.Passed.{tell, passedOf}
 use Rattle.passes.specs.declared.Passed.{Passed}
 use Rattle.passes.specs.declared.Passed.the-variants as pass
-use Rattle.sweeps.specs.Tracks.{samplesBy}
 use Rattle.verdicts.specs.declared.Audited.{Audited}
 use Rattle.verdicts.specs.declared.Audited.the-variants as answer
 use Rattle.follows.specs.declared.Followed.{Followed}
 use Rattle.follows.specs.declared.Followed.the-variants as follow
-use Rattle.movie.specs.Movie.{tracksBy, samplesFit}
+use Rattle.movie.specs.Movie.{samplesBy, tracksBy, samplesFit}
 use Rattle.movie.specs.declared.Sum.{Sum}
 use Rattle.movie.specs.declared.Sum.the-variants.{Is, Over}
 

@@ -19,7 +19,8 @@ use Rattle.verdicts.specs.Fragments.{Moof}
 use Rattle.verdicts.specs.Audit.{auditOf, audited}
 use Rattle.verdicts.specs.declared.Audited.{Audited}
 use Rattle.verdicts.specs.declared.Audited.the-variants.{Refused}
-use Rattle.sweeps.specs.Tracks.{samplesBy}
+use Rattle.fragments.specs.Samples.{samplesOfRuns}
+use Rattle.samples.specs.declared.Sample.{Sample}
 use Rattle.follows.specs.Follows.{gapsFit}
 
 -- the bytes of the file; the payloads of its mdats; its tracks in the order of the moov, by their numbers and by their
@@ -41,6 +42,10 @@ isFragmented [] = false
 isFragmented (m ∷ ms) = true
 
 -- THE TRACKS
+
+-- the samples of track n, by runs or by tables
+abbrev pub samplesBy : Bool → List ℕ → tables.Track → List Run → ℕ → List Sample
+samplesBy b f t rs n = when b (samplesOfRuns f rs n) (samplesOf f t)
 
 abbrev pub tracksBy : Bool → List ℕ → List Run → List ℕ → List tables.Track → List Track
 tracksBy b f rs [] ts = []

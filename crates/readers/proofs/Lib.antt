@@ -1,3 +1,2 @@
-pub mod Picks
 mod Unique
 mod Vectors

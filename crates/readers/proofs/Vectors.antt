@@ -13,7 +13,8 @@ use Rattle.rows.specs.declared.Judged.{Judged}
 use Rattle.rows.specs.declared.Judged.the-variants.{Fine, Wrong}
 use Rattle.rounds.proofs.Example.{box}
 use Rattle.places.specs.Kinds.{mdat, emsg, mdhd, tkhd, trex, tfhd, stsz, dref, url, stsd, elst, hdlr, stts, ctts, stsc, stco, co64, stss, mfhd, tfdt, trun}
-use Rattle.readers.specs.Readers.{readers, pick, faultOf}
+use Rattle.codings.specs.Codings.{pick, codings}
+use Rattle.readers.specs.Readers.{readers, faultOf}
 
 -- no byte is no box of any type that is read
 none-read : map (λ k. faultOf k []) (emsg ∷ trex ∷ tkhd ∷ elst ∷ mdhd ∷ hdlr ∷ dref ∷ url ∷ stsd ∷ stts ∷ ctts ∷ stsc ∷ stsz ∷ stco ∷ co64 ∷ stss ∷ mfhd ∷ tfhd ∷ tfdt ∷ trun ∷ []) ≡ replicate 20 (Wrong (refusal 1 0))
@@ -22,7 +23,7 @@ none-read = refl
 
 -- what is not read is not judged
 not-read : faultOf mdat [] ≡ Fine
-unfolding when pick readers
+unfolding when pick readers codings
 not-read = refl
 
 -- boxes with one number of 4 bytes, or with a table of no entries

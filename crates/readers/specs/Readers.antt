@@ -2,11 +2,10 @@
 -- type whose content is not read is fine. Assumes nothing.
 use Prim.Native.Nat.{ℕ}
 use mathlib.Core.List.{List, [], _∷_}
-use lib.Dec.{eqb}
-use Rattle.numbers.specs.Field.{when}
 use Rattle.places.specs.Kinds as kinds
 use Rattle.rows.specs.declared.Judged.{Judged}
 use Rattle.rows.specs.declared.Judged.the-variants.{Fine, Wrong}
+use Rattle.codings.specs.Codings.{Reader, reader, pick, codingOf}
 use Rattle.emsg.specs.Emsg.{emsgOf}
 use Rattle.emsg.specs.declared.Found as emsg-found
 use Rattle.emsg.specs.declared.Found.the-variants as emsg
@@ -149,14 +148,6 @@ abbrev pub trunFault : trun-found.Found → Judged
 trunFault (trun.Is m at) = Fine
 trunFault (trun.Refused q) = Wrong q
 
--- a type, and what its reader refuses of a part
-pub record Reader : Type 0 where
-  pub kind : ℕ
-  pub fault : List ℕ → Judged
-
-abbrev pub reader : ℕ → (List ℕ → Judged) → Reader
-reader kind fault = record { kind = kind; fault = fault }
-
 unfoldable pub readers : List Reader
 readers =
     reader kinds.emsg (λ part. emsgFault (emsgOf part)) ∷
@@ -181,10 +172,6 @@ readers =
     reader kinds.trun (λ part. trunFault (trunOf part)) ∷
     []
 
--- the reader of a type, asked
-unfoldable pub pick : ℕ → List ℕ → List Reader → Judged
-pick kind part [] = Fine
-pick kind part (r ∷ rs) = when (eqb kind (r .kind)) (r .fault part) (pick kind part rs)
-
+-- the reader of a type, asked: one of these, or of those that say how samples are coded
 abbrev pub faultOf : ℕ → List ℕ → Judged
-faultOf kind part = pick kind part readers
+faultOf kind part = pick (codingOf kind part) kind part readers

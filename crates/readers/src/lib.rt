@@ -1,4 +1,5 @@
-// What the reader of a box of any type refuses. A type whose content is not read is fine.
+// What the reader of a box of any type refuses; those of sample entries and their configurations stand in `codings`. A type
+// whose content is not read is fine.
 ghost use mathlib.Core.Path.{_≡_};
 ghost use Rattle.emsg.specs.Emsg.{emsgOf};
 ghost use Rattle.trex.specs.Trex.{trexOf};
@@ -271,5 +272,5 @@ pub fn fault(kind: u32, part: &[u8]) -> Judged
     if kind == kinds::TRUN {
         return trun(part);
     }
-    Judged::Fine
+    codings::fault(kind, part)
 }

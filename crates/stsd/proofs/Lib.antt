@@ -1,3 +1,4 @@
 pub mod StsdLaws
+mod Cases
 mod Unique
 mod Vectors

@@ -2,7 +2,7 @@
 // boxes, to the box's end. Whether there are as many as the count says is told by the tree of boxes (A47).
 ghost use mathlib.Core.Path.{_≡_};
 ghost use Rattle.put.specs.Put.{wrote};
-ghost use Rattle.stsd.specs.Stsd.{stsdOf, entriesOf, stsdIn};
+ghost use Rattle.stsd.specs.Stsd.{stsdOf, entriesOf, entryOf, stsdIn};
 use layout::Field;
 use numbers::Refusal;
 use put::Put;
@@ -70,6 +70,23 @@ pub fn entries(part: &[u8]) -> &[u8]
     ensures { λ r. ⌜ now r ≡ entriesOf (now (part .entry)) ⌝ }
 {
     layout::read::rest(part, KIND, ROW)
+}
+
+// The i-th sample entry, counted from 0, as the part of the box where it lies, from its header to its end; no bytes where
+// the box is refused, where it does not count so many, or where a fault comes before the entry.
+pub fn entry(part: &[u8], i: u32) -> &[u8]
+    ensures { λ r. ⌜ now r ≡ entryOf (now (part .entry)) i ⌝ }
+{
+    match read(part) {
+        Found::Is(stsd) => {
+            if stsd.count <= i {
+                return &part[..0];
+            }
+            let list = entries(part);
+            children::nth_box(list, i)
+        }
+        Found::Refused(_) => &part[..0],
+    }
 }
 
 pub fn write(stsd: Stsd, entries: &[u8], out: &mut [u8]) -> Put

@@ -9,17 +9,16 @@ use Rattle.numbers.specs.Field.{when}
 use Rattle.samples.specs.declared.Sample.{Sample}
 use Rattle.samples.specs.Lists.{held}
 use Rattle.tables.specs.declared.Track as tables
-use Rattle.lanes.specs.declared.Lane as tabled
-use Rattle.lanes.specs.declared.Runs as cursor
-use Rattle.lanes.specs.Lane as table
-use Rattle.lanes.proofs.Left as table-left
+use Rattle.lanes.specs.declared.site.Site as tabled
+use Rattle.lanes.specs.Site as table
+use Rattle.lanes.proofs.Sites as table-left
 use Rattle.runs.specs.declared.Run.{Run}
 use Rattle.fragments.specs.declared.Lane as ran
 use Rattle.fragments.specs.Lane as run
 use Rattle.fragments.proofs.Left as run-left
 use Rattle.verdicts.specs.Findings.{Track, track}
 use Rattle.sweeps.specs.declared.Head.{Head}
-use Rattle.sweeps.specs.Tracks.{samplesBy, fitting, tracksIn}
+use Rattle.sweeps.specs.Tracks.{placedBy, fitting, tracksIn}
 use Rattle.sweeps.specs.Heads.{ahead, Known, State, Passing, Passed}
 use Rattle.sweeps.proofs.Laws.{fitting-one}
 use Rattle.sweeps.proofs.Runs.{goes-further}
@@ -38,17 +37,6 @@ pub gives-one : (n : ℕ) (s : Sample) (l m : List Sample) → (l ≡ s ∷ m) �
 gives-one n s l m e =
     subst (λ (x : List Sample). Known (ahead true n (s .number) (s .offset) (s .size)) (track n true (fitting m)) (track n true x)) (sym (fitting-one l s m e))
     (refl, refl, refl, (refl, refl, refl, refl, refl))
-
--- a lane that is put together from its parts
-pub as-it-was : (l : tabled.Lane) (a b c : cursor.Runs) → a ≡ l .times → b ≡ l .shifts → c ≡ l .place .groups
-    → record { done = l .done; time = l .time; times = a; shifts = b; syncs = l .syncs; place = record { left = l .place .left; at = l .place .at; chunk = l .place .chunk; groups = c } } ≡ l
-as-it-was l a b c p q r =
-    ap₂ (λ (x y : cursor.Runs). record { done = l .done; time = l .time; times = x; shifts = y; syncs = l .syncs; place = record { left = l .place .left; at = l .place .at; chunk = l .place .chunk; groups = c } }) p q
-    ∙ ap (λ (z : cursor.Runs). record { done = l .done; time = l .time; times = l .times; shifts = l .shifts; syncs = l .syncs; place = record { left = l .place .left; at = l .place .at; chunk = l .place .chunk; groups = z } }) r
-
-pub passed-as : (b e p q n : ℕ) (f : List ℕ) (t : tables.Track) (h : Head) (x : Track) (l l′ : tabled.Lane) → l′ ≡ l
-    → Passed b e p (track n true (fitting (table.left f t l′))) q h x → Passed b e p (track n true (fitting (table.left f t l))) q h x
-passed-as b e p q n f t h x l l′ k w = subst (λ (z : tabled.Lane). Passed b e p (track n true (fitting (table.left f t z))) q h x) k w
 
 -- A RUN OF A LANE
 
@@ -76,22 +64,22 @@ module _ (b e p : ℕ) (y : Track) (q n : ℕ) (l : List Sample) (pass : Passing
 -- EVERY LANE
 
 -- what a track's lane has left that fits, by runs or by tables
-abbrev pub laneOf : Bool → List ℕ → List Run → ℕ → tables.Track → tabled.Lane → ran.Lane → Track
+abbrev pub laneOf : Bool → List ℕ → List Run → ℕ → tables.Track → tabled.Site → ran.Lane → Track
 laneOf b f rs n t l g = track n true (fitting (when b (run.left f rs n g) (table.left f t l)))
 
-abbrev pub lanesIn : Bool → List ℕ → List Run → List ℕ → List tables.Track → List tabled.Lane → List ran.Lane → List Track
+abbrev pub lanesIn : Bool → List ℕ → List Run → List ℕ → List tables.Track → List tabled.Site → List ran.Lane → List Track
 lanesIn b f rs [] ts ls gs = []
 lanesIn b f rs (n ∷ ns) [] ls gs = []
 lanesIn b f rs (n ∷ ns) (t ∷ ts) [] gs = []
 lanesIn b f rs (n ∷ ns) (t ∷ ts) (l ∷ ls) [] = []
 lanesIn b f rs (n ∷ ns) (t ∷ ts) (l ∷ ls) (g ∷ gs) = laneOf b f rs n t l g ∷ lanesIn b f rs ns ts ls gs
 
-module _ (b : Bool) (f : List ℕ) (rs : List Run) (n₀ : ℕ) (t₀ : tables.Track) (l₀ : tabled.Lane) (g₀ : ran.Lane) (x₀ : Track) where
+module _ (b : Bool) (f : List ℕ) (rs : List Run) (n₀ : ℕ) (t₀ : tables.Track) (l₀ : tabled.Site) (g₀ : ran.Lane) (x₀ : Track) where
   -- lane i
-  abbrev pub laneAt : List ℕ → List tables.Track → List tabled.Lane → List ran.Lane → ℕ → Track
+  abbrev pub laneAt : List ℕ → List tables.Track → List tabled.Site → List ran.Lane → ℕ → Track
   laneAt ns ts ls gs i = laneOf b f rs (getD ns i n₀) (getD ts i t₀) (getD ls i l₀) (getD gs i g₀)
 
-  pub lane-at : (ns : List ℕ) (ts : List tables.Track) (ls : List tabled.Lane) (gs : List ran.Lane) (i : ℕ) → i < length ns → i < length ts → i < length ls → i < length gs
+  pub lane-at : (ns : List ℕ) (ts : List tables.Track) (ls : List tabled.Site) (gs : List ran.Lane) (i : ℕ) → i < length ns → i < length ts → i < length ls → i < length gs
       → getD (lanesIn b f rs ns ts ls gs) i x₀ ≡ laneAt ns ts ls gs i
   lane-at [] ts ls gs i p q r s = absurd (omega arith)
   lane-at (n ∷ ns) [] ls gs i p q r s = absurd (omega arith)
@@ -101,7 +89,7 @@ module _ (b : Bool) (f : List ℕ) (rs : List Run) (n₀ : ℕ) (t₀ : tables.T
   lane-at (n ∷ ns) (t ∷ ts) (l ∷ ls) (g ∷ gs) (suc i) p q r s = lane-at ns ts ls gs i (omega arith) (omega arith) (omega arith) (omega arith)
 
   -- with another lane there
-  pub set-table : (m : tabled.Lane) (ns : List ℕ) (ts : List tables.Track) (ls : List tabled.Lane) (gs : List ran.Lane) (i : ℕ) → i < length ns → i < length ts → i < length ls → i < length gs
+  pub set-table : (m : tabled.Site) (ns : List ℕ) (ts : List tables.Track) (ls : List tabled.Site) (gs : List ran.Lane) (i : ℕ) → i < length ns → i < length ts → i < length ls → i < length gs
       → set (lanesIn b f rs ns ts ls gs) i (laneOf b f rs (getD ns i n₀) (getD ts i t₀) m (getD gs i g₀)) ≡ lanesIn b f rs ns ts (set ls i m) gs
   set-table m [] ts ls gs i p q r s = absurd (omega arith)
   set-table m (n ∷ ns) [] ls gs i p q r s = absurd (omega arith)
@@ -111,7 +99,7 @@ module _ (b : Bool) (f : List ℕ) (rs : List Run) (n₀ : ℕ) (t₀ : tables.T
   set-table m (n ∷ ns) (t ∷ ts) (l ∷ ls) (g ∷ gs) (suc i) p q r s =
       ap (λ (xs : List Track). laneOf b f rs n t l g ∷ xs) (set-table m ns ts ls gs i (omega arith) (omega arith) (omega arith) (omega arith))
 
-  pub set-run : (m : ran.Lane) (ns : List ℕ) (ts : List tables.Track) (ls : List tabled.Lane) (gs : List ran.Lane) (i : ℕ) → i < length ns → i < length ts → i < length ls → i < length gs
+  pub set-run : (m : ran.Lane) (ns : List ℕ) (ts : List tables.Track) (ls : List tabled.Site) (gs : List ran.Lane) (i : ℕ) → i < length ns → i < length ts → i < length ls → i < length gs
       → set (lanesIn b f rs ns ts ls gs) i (laneOf b f rs (getD ns i n₀) (getD ts i t₀) (getD ls i l₀) m) ≡ lanesIn b f rs ns ts ls (set gs i m)
   set-run m [] ts ls gs i p q r s = absurd (omega arith)
   set-run m (n ∷ ns) [] ls gs i p q r s = absurd (omega arith)
@@ -123,14 +111,14 @@ module _ (b : Bool) (f : List ℕ) (rs : List Run) (n₀ : ℕ) (t₀ : tables.T
 
 -- only one kind of lane counts
 module _ (f : List ℕ) (rs : List Run) (u e p q : ℕ) (h : Head) (n : ℕ) (t : tables.Track) where
-  pub passed-run : (b : Bool) (l : tabled.Lane) (g g′ : ran.Lane) → b ≡ true
+  pub passed-run : (b : Bool) (l : tabled.Site) (g g′ : ran.Lane) → b ≡ true
       → Passed u e p (track n true (fitting (run.left f rs n g))) q h (track n true (fitting (run.left f rs n g′)))
       → Passed u e p (laneOf b f rs n t l g) q h (laneOf b f rs n t l g′)
   unfolding when
   passed-run true l g g′ k w = w
   passed-run false l g g′ k w = let z : _≡_ {A = ℕ} 0 1 = cc in absurd (omega arith)
 
-  pub passed-table : (b : Bool) (l l′ : tabled.Lane) (g : ran.Lane) → b ≡ false
+  pub passed-table : (b : Bool) (l l′ : tabled.Site) (g : ran.Lane) → b ≡ false
       → Passed u e p (track n true (fitting (table.left f t l))) q h (track n true (fitting (table.left f t l′)))
       → Passed u e p (laneOf b f rs n t l g) q h (laneOf b f rs n t l′ g)
   unfolding when
@@ -139,12 +127,12 @@ module _ (f : List ℕ) (rs : List Run) (u e p q : ℕ) (h : Head) (n : ℕ) (t 
 
 -- THE START
 
-module _ (b : Bool) (f : List ℕ) (rs : List Run) (z : Head) (l : tabled.Lane) (g : ran.Lane) (dead : z .live ≡ false) (el : l ≡ table.fresh) (eg : g ≡ run.fresh) where
+module _ (b : Bool) (f : List ℕ) (rs : List Run) (z : Head) (l : tabled.Site) (g : ran.Lane) (dead : z .live ≡ false) (el : l ≡ table.fresh) (eg : g ≡ run.fresh) where
   all-dead : (k j : ℕ) (xs : List Track) → State k (replicate j z) xs []
   all-dead k zero xs = tt
   all-dead k (suc j) xs = (dead, all-dead k j xs)
 
-  begun-lane : (n : ℕ) (t : tables.Track) → laneOf b f rs n t l g ≡ track n true (fitting (samplesBy b f t rs n))
+  begun-lane : (n : ℕ) (t : tables.Track) → laneOf b f rs n t l g ≡ track n true (fitting (placedBy b f t rs n))
   begun-lane n t =
       ap₂ (λ (x y : List Sample). track n true (fitting (when b x y)))
       (ap (run.left f rs n) eg ∙ run-left.left-fresh f rs n) (ap (table.left f t) el ∙ table-left.left-fresh f t)

@@ -1,4 +1,5 @@
 pub mod Laws
+pub mod Bare
 mod Looks
 mod Bridge
 mod Runs

@@ -43,7 +43,7 @@ up-to-the-second = refl
 
 -- the first of two tracks by its tables, in a file whose runs do not count
 by-tables : tracksIn false tabled.file (rowsOf ran.table 4) (take 1 (7 ∷ 9 ∷ [])) (take 1 (tabled.high ∷ tabled.track ∷ []))
-    ≡ track 7 true (record { number = 1; offset = 0xffff_ffff_ffff_fff0; size = 10; time = 0; duration = 1000; composition = pos 0; sync = true } ∷ []) ∷ []
+    ≡ track 7 true (record { number = 1; offset = 0xffff_ffff_ffff_fff0; size = 10; time = 0; duration = 0; composition = pos 0; sync = false } ∷ []) ∷ []
 unfolding be bytes field when signed pairAt groupAt offsetAt sizeAt numberAt
 by-tables = refl
 

@@ -9,8 +9,8 @@ use Rattle.numbers.proofs.Chain.{is-eq}
 use Rattle.kin.specs.Kin.{Boxes, stands}
 use Rattle.tables.specs.declared.Track as tables
 use Rattle.tables.specs.declared.Optional.the-variants.{Absent}
-use Rattle.lanes.specs.declared.Lane as tabled
-use Rattle.lanes.specs.Lane as table
+use Rattle.lanes.specs.declared.site.Site as tabled
+use Rattle.lanes.specs.Site as table
 use Rattle.runs.specs.declared.Run.{Run}
 use Rattle.fragments.specs.declared.Lane as ran
 use Rattle.fragments.specs.Lane as run
@@ -107,7 +107,7 @@ module _ (all : List Span) (start : List Track) (n : ℕ) (hs : List Head) (xs :
 -- WITH THE LANES
 
 -- the same by the lanes, of which the code has four of each kind
-pub record Walking (all : List Span) (start : List Track) (n : ℕ) (b : Bool) (f : List ℕ) (rs : List Run) (ns : List ℕ) (ts : List tables.Track) (hs : List Head) (ls : List tabled.Lane) (gs : List ran.Lane) (k p e : ℕ) (m : List Span) : Type 0 where
+pub record Walking (all : List Span) (start : List Track) (n : ℕ) (b : Bool) (f : List ℕ) (rs : List Run) (ns : List ℕ) (ts : List tables.Track) (hs : List Head) (ls : List tabled.Site) (gs : List ran.Lane) (k p e : ℕ) (m : List Span) : Type 0 where
   pub sweeping : Sweeping all start n hs (lanesIn b f rs ns ts ls gs) k p e m
   pub numbers-four : length ns ≡ 4
   pub tracks-four : length ts ≡ 4
@@ -115,7 +115,7 @@ pub record Walking (all : List Span) (start : List Track) (n : ℕ) (b : Bool) (
   pub runs-four : length gs ≡ 4
 
 -- it begins at the end of an empty payload before the first
-pub begins : (b : Bool) (f : List ℕ) (rs : List Run) (z : Head) (l : tabled.Lane) (g : ran.Lane) → z .live ≡ false → l ≡ table.fresh → g ≡ run.fresh
+pub begins : (b : Bool) (f : List ℕ) (rs : List Run) (z : Head) (l : tabled.Site) (g : ran.Lane) → z .live ≡ false → l ≡ table.fresh → g ≡ run.fresh
     → (all : List Span) (k n : ℕ) (ns : List ℕ) (ts : List tables.Track) → length ns ≡ 4 → length ts ≡ 4 → n ≡ min k 4
     → Walking all (tracksIn b f rs (take k ns) (take k ts)) n b f rs ns ts (replicate 4 z) (replicate 4 l) (replicate 4 g) 0 0 0 all
 begins b f rs z l g dead el eg all k n ns ts p q e = record {
@@ -146,7 +146,7 @@ no-tables = record {
   stss = Absent;
 }
 
-module _ (all : List Span) (start : List Track) (n : ℕ) (b : Bool) (f : List ℕ) (rs : List Run) (ns : List ℕ) (ts : List tables.Track) (hs : List Head) (ls : List tabled.Lane) (gs : List ran.Lane) (k p e : ℕ) (m : List Span)
+module _ (all : List Span) (start : List Track) (n : ℕ) (b : Bool) (f : List ℕ) (rs : List Run) (ns : List ℕ) (ts : List tables.Track) (hs : List Head) (ls : List tabled.Site) (gs : List ran.Lane) (k p e : ℕ) (m : List Span)
     (w : Walking all start n b f rs ns ts hs ls gs k p e m) (r : Turn) (i : TurnIs hs k n p e r) where
   pub stops : (x : Finding) → r ≡ Stop x → Found x ≡ asked (sweepFrom all all start)
   stops x q = at-stop all start n hs (lanesIn b f rs ns ts ls gs) k p e m (w .sweeping) r i x q
@@ -174,7 +174,7 @@ module _ (all : List Span) (start : List Track) (n : ℕ) (b : Bool) (f : List �
     pub take-inside : (q ≤ e) × (u ≤ e)
     take-inside = it-inside all start n hs (lanesIn b f rs ns ts ls gs) k p e m (w .sweeping) r i t q u k′ o
 
-    module _ (n₀ : ℕ) (t₀ : tables.Track) (l₀ : tabled.Lane) (g₀ : ran.Lane) (q′ : ℕ) (h : Head) where
+    module _ (n₀ : ℕ) (t₀ : tables.Track) (l₀ : tabled.Site) (g₀ : ran.Lane) (q′ : ℕ) (h : Head) where
       ins : t < length ns
       ins = omega (arith, take-low, w .numbers-four)
 
@@ -208,7 +208,7 @@ module _ (all : List Span) (start : List Track) (n : ℕ) (b : Bool) (f : List �
             v .1,
           )
 
-      pub table-gives : (n₀ : ℕ) (t₀ : tables.Track) (l₀ : tabled.Lane) → b ≡ false → (l : tabled.Lane)
+      pub table-gives : (n₀ : ℕ) (t₀ : tables.Track) (l₀ : tabled.Site) → b ≡ false → (l : tabled.Site)
           → Passed u e q (track (getD ns t n₀) true (fitting (table.left f (getD ts t t₀) (getD ls t l₀)))) q′ h (track (getD ns t n₀) true (fitting (table.left f (getD ts t t₀) l)))
           → Walking all start n b f rs ns ts (set hs t h) (set ls t l) gs k′ q′ e m
           × (weight n k′ (set hs t h) (lanesIn b f rs ns ts (set ls t l) gs) < weight n k hs (lanesIn b f rs ns ts ls gs))

@@ -7,14 +7,15 @@ use Rattle.numbers.specs.Field.{when}
 use Rattle.samples.specs.declared.Sample.{Sample}
 use Rattle.samples.specs.Lists.{held}
 use Rattle.tables.specs.declared.Track as tables
-use Rattle.tables.specs.Samples.{samplesOf}
+use Rattle.lanes.specs.Site.{sitesOf}
 use Rattle.runs.specs.declared.Run.{Run}
 use Rattle.fragments.specs.Samples.{samplesOfRuns}
 use Rattle.verdicts.specs.Findings.{Track, track}
 
--- the samples of track n, by runs or by tables
-abbrev pub samplesBy : Bool → List ℕ → tables.Track → List Run → ℕ → List Sample
-samplesBy b f t rs n = when b (samplesOfRuns f rs n) (samplesOf f t)
+-- the samples of track n, by runs or by tables: where each lies, and of tables nothing else, since the sweep asks for
+-- nothing else (`sweep-bare`, proofs/Bare.antt)
+abbrev pub placedBy : Bool → List ℕ → tables.Track → List Run → ℕ → List Sample
+placedBy b f t rs n = when b (samplesOfRuns f rs n) (sitesOf f t)
 
 -- the samples before the first that does not fit: where there is one, the file is refused before any sweep (9)
 abbrev pub fitting : List Sample → List Sample
@@ -25,4 +26,4 @@ fitting (s ∷ l) = when (held s) (s ∷ fitting l) []
 abbrev pub tracksIn : Bool → List ℕ → List Run → List ℕ → List tables.Track → List Track
 tracksIn b f rs [] ts = []
 tracksIn b f rs (n ∷ ns) [] = []
-tracksIn b f rs (n ∷ ns) (t ∷ ts) = track n true (fitting (samplesBy b f t rs n)) ∷ tracksIn b f rs ns ts
+tracksIn b f rs (n ∷ ns) (t ∷ ts) = track n true (fitting (placedBy b f t rs n)) ∷ tracksIn b f rs ns ts

@@ -9,10 +9,13 @@ ghost use Rattle.runtable.specs.Table.{rowsOf};
 ghost use Rattle.verdicts.specs.Findings.{track, asked};
 ghost use Rattle.verdicts.specs.Sweep.{sweep as sweepOf};
 ghost use Rattle.payloads.specs.Payloads.{payloadsFrom};
-ghost use Rattle.lanes.specs.Lane as tabled;
+ghost use Rattle.lanes.specs.Site as tabled;
 ghost use Rattle.fragments.specs.Lane as fragmented;
 ghost use Rattle.sweeps.specs.Tracks.{fitting, tracksIn};
 ghost use Rattle.sweeps.specs.Heads.{claimed, strayOf, leftIn, seeAt, lookAt, nothing, nearerAt, untilIn, Passed, TurnIs, ahead};
+use lanes::site;
+use lanes::site::Site;
+use lanes::site::Stood;
 use payloads::Payload;
 use verdicts::Asked;
 use verdicts::Finding;
@@ -270,53 +273,15 @@ fn goes_on(offset: u64, size: u64, p: u64, until: u64, end: u64) -> bool
 }
 
 // A lane's next sample.
-fn met(track: u32, sample: samples::Sample) -> Head
-    ensures { λ r. ⌜ r ≡ ahead true track (sample .number) (sample .offset) (sample .size) ⌝ }
+fn met(track: u32, number: u32, offset: u64, size: u32) -> Head
+    ensures { λ r. ⌜ r ≡ ahead true track number offset size ⌝ }
 {
     Head {
         live: true,
         track: track,
-        number: sample.number,
-        offset: sample.offset,
-        size: sample.size,
-    }
-}
-
-// A lane field by field: a copy of the whole would carry the gaps between its fields along, which costs more than the
-// fields.
-fn cursor(c: lanes::Runs) -> lanes::Runs
-    ensures { λ r. ⌜ r ≡ c ⌝ }
-{
-    lanes::Runs {
-        next: c.next,
-        left: c.left,
-        value: c.value,
-    }
-}
-
-fn whole(l: lanes::Lane) -> lanes::Lane
-    ensures { λ r. ⌜ r ≡ l ⌝ }
-{
-    let times = l.times;
-    let shifts = l.shifts;
-    let syncs = l.syncs;
-    let place = l.place;
-    let groups = place.groups;
-    lanes::Lane {
-        done: l.done,
-        time: l.time,
-        times: cursor(times),
-        shifts: cursor(shifts),
-        syncs: lanes::Marks {
-            next: syncs.next,
-            number: syncs.number,
-        },
-        place: lanes::Place {
-            left: place.left,
-            at: place.at,
-            chunk: place.chunk,
-            groups: cursor(groups),
-        },
+        number: number,
+        offset: offset,
+        size: size,
     }
 }
 
@@ -324,7 +289,7 @@ fn whole(l: lanes::Lane) -> lanes::Lane
 struct Tabled {
     pub at: u64,
     pub head: Head,
-    pub lane: lanes::Lane,
+    pub lane: Site,
 }
 
 // From p on, as long as the lane's samples follow one another and no other track can have one: below `until`. A sample
@@ -333,7 +298,7 @@ fn by_tables(
     file: &[u8],
     number: u32,
     t: tables::Track,
-    lane: lanes::Lane,
+    lane: Site,
     p: u64,
     until: u64,
     end: u64,
@@ -341,36 +306,38 @@ fn by_tables(
     requires { ⌜ (p ≤ end) × (until ≤ end) ⌝ }
     ensures { λ r. ⌜ Passed until end p (track number true (fitting (tabled.left (now (file .entry)) t lane))) (r .at) (r .head) (track number true (fitting (tabled.left (now (file .entry)) t (r .lane)))) ⌝ }
 {
-    let mut rest = whole(lane);
+    let mut rest = lane;
     let mut at = p;
     loop {
-        match lanes::next(file, t, rest) {
-            lanes::Taken::End => {
+        match site::next(file, t, rest) {
+            Stood::End => {
                 return Tabled {
                     at: at,
                     head: dead(number),
                     lane: rest,
                 };
             }
-            lanes::Taken::Over => {
+            Stood::Over => {
                 return Tabled {
                     at: at,
                     head: dead(number),
                     lane: rest,
                 };
             }
-            lanes::Taken::One {
-                sample,
-                lane: after,
+            Stood::One {
+                number: sample,
+                offset,
+                size,
+                site: after,
             } => {
-                let size = sample.size as u64;
-                if goes_on(sample.offset, size, at, until, end) {
-                    at += size;
+                let wide = size as u64;
+                if goes_on(offset, wide, at, until, end) {
+                    at += wide;
                     rest = after;
                 } else {
                     return Tabled {
                         at: at,
-                        head: met(number, sample),
+                        head: met(number, sample, offset, size),
                         lane: after,
                     };
                 }
@@ -428,7 +395,7 @@ fn by_runs(
                 } else {
                     return Ran {
                         at: at,
-                        head: met(number, sample),
+                        head: met(number, sample.number, sample.offset, sample.size),
                         lane: after,
                     };
                 }
@@ -464,7 +431,7 @@ pub fn sweep(
 {
     let most = at_most_four(count);
     let none = dead(0);
-    let tabled = lanes::start();
+    let tabled = site::start();
     let ran = fragments::start();
     let mut heads = [none, none, none, none];
     let mut by_table = [tabled, tabled, tabled, tabled];

@@ -1,4 +1,5 @@
 pub mod Laws
 pub mod LanguageLaws
+mod Signs
 mod Vectors
 mod Unique

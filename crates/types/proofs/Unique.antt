@@ -4,6 +4,8 @@ use Rattle.types.proofs.fixed.raw8.Reads as raw8
 use Rattle.types.proofs.fixed.whole8.Reads as whole8
 use Rattle.types.proofs.fixed.raw16.Reads as raw16
 use Rattle.types.proofs.fixed.whole16.Reads as whole16
+use Rattle.types.proofs.fixed.raw_signed8.Reads as raw-signed8
+use Rattle.types.proofs.fixed.whole_signed8.Reads as whole-signed8
 use Rattle.types.proofs.letters.number_of.Reads as number-of
 use Rattle.types.proofs.letters.of_number.Reads as of-number
 use Rattle.types.proofs.duration.micros.Reads as micros
@@ -21,6 +23,12 @@ raw16-fixed κs a r q s t p o = p ∙ sym o
 
 whole16-fixed : (κs : _) (a : _) (r q : _) (s t : _) → whole16.Post κs a r s → whole16.Post κs a q t → r ≡ q
 whole16-fixed κs a r q s t p o = p ∙ sym o
+
+raw-signed8-fixed : (κs : _) (a : _) (r q : _) (s t : _) → raw-signed8.Post κs a r s → raw-signed8.Post κs a q t → r ≡ q
+raw-signed8-fixed κs a r q s t p o = p ∙ sym o
+
+whole-signed8-fixed : (κs : _) (a : _) (r q : _) (s t : _) → whole-signed8.Post κs a r s → whole-signed8.Post κs a q t → r ≡ q
+whole-signed8-fixed κs a r q s t p o = p ∙ sym o
 
 number-of-fixed : (κs : _) (a : _) (r q : _) (s t : _) → number-of.Post κs a r s → number-of.Post κs a q t → r ≡ q
 number-of-fixed κs a r q s t p o = p ∙ sym o

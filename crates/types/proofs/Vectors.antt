@@ -2,10 +2,11 @@
 use mathlib.Core.Path.{_≡_, refl}
 use mathlib.Core.List.{[], _∷_}
 use Prim.Native.Nat.{_+_, _*_}
+use lib.IntN.{pos, negsuc}
 use Rattle.numbers.specs.Number.{be}
 use Rattle.numbers.specs.Field.{refusal, when}
 use Rattle.numbers.specs.declared.U64.the-variants as number
-use Rattle.types.specs.Fixed.{rawOf, wholeOf}
+use Rattle.types.specs.Fixed.{rawOf, wholeOf, signedRaw, signedWhole}
 use Rattle.types.specs.Duration.{microsOf}
 use Rattle.types.specs.Language.{lettersOf, five, codeOf}
 use Rattle.numbers.specs.declared.U16.the-variants as code
@@ -21,6 +22,22 @@ width-640 = refl
 
 half-left : wholeOf 2 (640 * 65536 + 32768) ≡ 640
 half-left = refl
+
+-- a balance of -1 in signed 8.8, of the least, of -1.5 and of -0.5: toward 0
+left : signedRaw 1 (negsuc 0) ≡ negsuc 255
+left = refl
+
+least : signedRaw 1 (negsuc 127) ≡ negsuc 32767
+least = refl
+
+least-back : signedWhole 1 (negsuc 32767) ≡ negsuc 127
+least-back = refl
+
+one-and-a-half : signedWhole 1 (negsuc 383) ≡ negsuc 0
+one-and-a-half = refl
+
+half-of-left : signedWhole 1 (negsuc 127) ≡ pos 0
+half-of-left = refl
 
 -- case 5: timescale 1, duration 18,446,744,073,709 fits; one more is 9
 case-5-fits : microsOf 18_446_744_073_709 1 ≡ number.Is 18_446_744_073_709_000_000

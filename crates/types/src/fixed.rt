@@ -1,6 +1,6 @@
-// Fixed point numbers 8.8 and 16.16 as the raw integers that stand in a file.
+// Fixed point numbers 8.8 and 16.16, and signed 8.8, as the raw integers that stand in a file.
 ghost use mathlib.Core.Path.{_≡_};
-ghost use Rattle.types.specs.Fixed.{rawOf, wholeOf};
+ghost use Rattle.types.specs.Fixed.{rawOf, wholeOf, signedRaw, signedWhole};
 
 pub fn raw8(whole: u8) -> u16
     ensures { λ r. ⌜ r ≡ rawOf 1 whole ⌝ }
@@ -24,4 +24,17 @@ pub fn whole16(raw: u32) -> u16
     ensures { λ r. ⌜ r ≡ wholeOf 2 raw ⌝ }
 {
     (raw / 0x1_0000) as u16
+}
+
+pub fn raw_signed8(whole: i8) -> i16
+    ensures { λ r. ⌜ r ≡ signedRaw 1 whole ⌝ }
+{
+    (whole as i16) * 0x100
+}
+
+// Toward 0: of -0.5 the whole part is 0.
+pub fn whole_signed8(raw: i16) -> i8
+    ensures { λ r. ⌜ r ≡ signedWhole 1 raw ⌝ }
+{
+    (raw / 0x100) as i8
 }

@@ -1,0 +1,3 @@
+pub mod Avc1Laws
+mod Unique
+mod Vectors

@@ -1,0 +1,5 @@
+pub mod AvccLaws
+mod Cases
+mod Puts
+mod Unique
+mod Vectors

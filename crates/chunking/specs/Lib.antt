@@ -1,0 +1,2 @@
+pub mod Chunking
+pub mod Entries

@@ -1,0 +1,3 @@
+pub mod Picks
+mod Unique
+mod Vectors

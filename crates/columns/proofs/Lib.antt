@@ -1,0 +1,5 @@
+pub mod Written
+pub mod Cells
+pub mod Records
+mod Vectors
+mod Unique

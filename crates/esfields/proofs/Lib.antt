@@ -1,0 +1,6 @@
+pub mod Cases
+pub mod Puts
+pub mod FieldLaws
+pub mod FieldsOwn
+mod Unique
+mod Vectors

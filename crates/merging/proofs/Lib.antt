@@ -1,0 +1,5 @@
+pub mod Steps
+pub mod Fewest
+pub mod Rows
+mod Vectors
+mod Unique

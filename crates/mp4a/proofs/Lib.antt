@@ -1,0 +1,3 @@
+pub mod Mp4aLaws
+mod Unique
+mod Vectors

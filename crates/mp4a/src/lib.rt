@@ -1,0 +1,127 @@
+// The sample entry of MPEG-4 audio (AudioSampleEntry of version 0, ISO/IEC 14496-12, 12.2.3; MP4AudioSampleEntry,
+// 14496-14, 5.6): an index, three numbers of the sound, and boxes, which are the rest of the box.
+ghost use mathlib.Core.Path.{_≡_};
+ghost use Rattle.put.specs.Put.{wrote};
+ghost use Rattle.mp4a.specs.Mp4a.{mp4aOf, childrenOf, esdsOf, mp4aIn, rateOf, freshOf};
+use layout::Field;
+use numbers::Refusal;
+use numbers::U32;
+use put::Put;
+
+// The rate has 16 bits before the point, and 16 behind it.
+pub struct Mp4a {
+    pub data_reference_index: u16,
+    pub channelcount: u16,
+    pub samplesize: u16,
+    pub samplerate: u32,
+}
+
+pub enum Found {
+    Is(Mp4a),
+    Refused(Refusal),
+}
+
+pub const KIND: u32 = 0x6d703461;
+
+pub const ROW: [Field; 24] = [
+    Field::Reserved(6, 0),
+    Field::Number(2),
+    Field::Reserved(8, 0),
+    Field::Number(2),
+    Field::Number(2),
+    Field::Reserved(2, 0),
+    Field::Reserved(2, 0),
+    Field::Number(4),
+    Field::Nothing,
+    Field::Nothing,
+    Field::Nothing,
+    Field::Nothing,
+    Field::Nothing,
+    Field::Nothing,
+    Field::Nothing,
+    Field::Nothing,
+    Field::Nothing,
+    Field::Nothing,
+    Field::Nothing,
+    Field::Nothing,
+    Field::Nothing,
+    Field::Nothing,
+    Field::Nothing,
+    Field::Nothing,
+];
+
+pub fn read(part: &[u8]) -> Found
+    ensures { λ r. ⌜ r ≡ mp4aOf (now (part .entry)) ⌝ }
+{
+    let got = layout::read::by(part, KIND, ROW);
+    if got.number != 0 {
+        return Found::Refused(Refusal {
+            number: got.number,
+            detail: got.place,
+        });
+    }
+    let v = got.values;
+    Found::Is(Mp4a {
+        data_reference_index: v[0] as u16,
+        channelcount: v[1] as u16,
+        samplesize: v[2] as u16,
+        samplerate: v[3] as u32,
+    })
+}
+
+// The boxes behind the numbers, as the part where they lie; no bytes where the box is refused.
+pub fn children(part: &[u8]) -> &[u8]
+    ensures { λ r. ⌜ now r ≡ childrenOf (now (part .entry)) ⌝ }
+{
+    layout::read::rest(part, KIND, ROW)
+}
+
+// The first esds among them, as the part of the entry where it lies; no bytes where there is none, or where a fault comes
+// before it.
+pub fn esds(part: &[u8]) -> &[u8]
+    ensures { λ r. ⌜ now r ≡ esdsOf (now (part .entry)) ⌝ }
+{
+    let boxes = layout::read::rest(part, KIND, ROW);
+    children::first_box(boxes, 0x65736473)
+}
+
+pub fn write(mp4a: Mp4a, children: &[u8], out: &mut [u8]) -> Put
+    ensures { λ r. ⌜ wrote r (now (out .exit)) ≡ mp4aIn mp4a (now (children .entry)) (now (out .entry)) ⌝ }
+{
+    let mut v = [0; 24];
+    v[0] = mp4a.data_reference_index as u64;
+    v[1] = mp4a.channelcount as u64;
+    v[2] = mp4a.samplesize as u64;
+    v[3] = mp4a.samplerate as u64;
+    layout::write::by(out, KIND, ROW, v, children)
+}
+
+// The rate of a whole number of samples each second. One that has more than 16 bits is 13: none of its bits is dropped.
+pub fn rate(frequency: u32) -> U32
+    ensures { λ r. ⌜ r ≡ rateOf frequency ⌝ }
+{
+    if 0xffff < frequency {
+        return U32::Refused(Refusal {
+            number: 13,
+            detail: 0,
+        });
+    }
+    let whole = frequency as u16;
+    U32::Is((whole as u32) * 0x1_0000)
+}
+
+// The record of a new entry: its samples are in the first data reference, and have 16 bits. 13 where the entry cannot say
+// the frequency.
+pub fn fresh(channels: u16, frequency: u32) -> Found
+    ensures { λ r. ⌜ r ≡ freshOf channels frequency ⌝ }
+{
+    match rate(frequency) {
+        U32::Refused(q) => Found::Refused(q),
+        U32::Is(samplerate) => Found::Is(Mp4a {
+            data_reference_index: 1,
+            channelcount: channels,
+            samplesize: 16,
+            samplerate: samplerate,
+        }),
+    }
+}

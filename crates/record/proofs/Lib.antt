@@ -1,0 +1,5 @@
+pub mod Laws
+mod Cases
+mod Columns
+mod Vectors
+mod Unique

@@ -1,0 +1,4 @@
+mod Cases
+pub mod SetsLaws
+mod Unique
+mod Vectors

@@ -1,0 +1,5 @@
+pub mod Quotient
+pub mod Exact
+mod Cases
+mod Vectors
+mod Unique

@@ -1,0 +1,3 @@
+pub mod Tx3gLaws
+mod Unique
+mod Vectors

@@ -1,0 +1,168 @@
+// How timed text is shown (3GPP TS 26.245, 5.16): the text's place and its first style, and then boxes, the font
+// table among them, to the box's end. The justifications and the four sides of the text's box are signed numbers there;
+// they are kept as their raw bits, in two's complement.
+ghost use mathlib.Core.Path.{_≡_};
+ghost use Rattle.put.specs.Put.{wrote};
+ghost use Rattle.tx3g.specs.Tx3g.{tx3gOf, boxesOf, tx3gIn, freshOf};
+use layout::Field;
+use numbers::Refusal;
+use put::Put;
+
+pub struct Tx3g {
+    pub data_reference_index: u16,
+    pub display_flags: u32,
+    pub horizontal_justification: u8,
+    pub vertical_justification: u8,
+    pub background_red: u8,
+    pub background_green: u8,
+    pub background_blue: u8,
+    pub background_alpha: u8,
+    pub top: u16,
+    pub left: u16,
+    pub bottom: u16,
+    pub right: u16,
+    pub start_char: u16,
+    pub end_char: u16,
+    pub font_id: u16,
+    pub face_style_flags: u8,
+    pub font_size: u8,
+    pub text_red: u8,
+    pub text_green: u8,
+    pub text_blue: u8,
+    pub text_alpha: u8,
+}
+
+pub enum Found {
+    Is(Tx3g),
+    Refused(Refusal),
+}
+
+pub const KIND: u32 = 0x74783367;
+
+pub const ROW: [Field; 24] = [
+    Field::Reserved(6, 0),
+    Field::Number(2),
+    Field::Number(4),
+    Field::Number(1),
+    Field::Number(1),
+    Field::Number(1),
+    Field::Number(1),
+    Field::Number(1),
+    Field::Number(1),
+    Field::Number(2),
+    Field::Number(2),
+    Field::Number(2),
+    Field::Number(2),
+    Field::Number(2),
+    Field::Number(2),
+    Field::Number(2),
+    Field::Number(1),
+    Field::Number(1),
+    Field::Number(1),
+    Field::Number(1),
+    Field::Number(1),
+    Field::Number(1),
+    Field::Nothing,
+    Field::Nothing,
+];
+
+pub fn read(part: &[u8]) -> Found
+    ensures { λ r. ⌜ r ≡ tx3gOf (now (part .entry)) ⌝ }
+{
+    let got = layout::read::by(part, KIND, ROW);
+    if got.number != 0 {
+        return Found::Refused(Refusal {
+            number: got.number,
+            detail: got.place,
+        });
+    }
+    let v = got.values;
+    Found::Is(Tx3g {
+        data_reference_index: v[0] as u16,
+        display_flags: v[1] as u32,
+        horizontal_justification: v[2] as u8,
+        vertical_justification: v[3] as u8,
+        background_red: v[4] as u8,
+        background_green: v[5] as u8,
+        background_blue: v[6] as u8,
+        background_alpha: v[7] as u8,
+        top: v[8] as u16,
+        left: v[9] as u16,
+        bottom: v[10] as u16,
+        right: v[11] as u16,
+        start_char: v[12] as u16,
+        end_char: v[13] as u16,
+        font_id: v[14] as u16,
+        face_style_flags: v[15] as u8,
+        font_size: v[16] as u8,
+        text_red: v[17] as u8,
+        text_green: v[18] as u8,
+        text_blue: v[19] as u8,
+        text_alpha: v[20] as u8,
+    })
+}
+
+// The boxes behind the fields, as the part of the box where they lie; no bytes where the box is refused.
+pub fn rest(part: &[u8]) -> &[u8]
+    ensures { λ r. ⌜ now r ≡ boxesOf (now (part .entry)) ⌝ }
+{
+    layout::read::rest(part, KIND, ROW)
+}
+
+pub fn write(tx3g: Tx3g, rest: &[u8], out: &mut [u8]) -> Put
+    ensures { λ r. ⌜ wrote r (now (out .exit)) ≡ tx3gIn tx3g (now (rest .entry)) (now (out .entry)) ⌝ }
+{
+    let mut v = [0; 24];
+    v[0] = tx3g.data_reference_index as u64;
+    v[1] = tx3g.display_flags as u64;
+    v[2] = tx3g.horizontal_justification as u64;
+    v[3] = tx3g.vertical_justification as u64;
+    v[4] = tx3g.background_red as u64;
+    v[5] = tx3g.background_green as u64;
+    v[6] = tx3g.background_blue as u64;
+    v[7] = tx3g.background_alpha as u64;
+    v[8] = tx3g.top as u64;
+    v[9] = tx3g.left as u64;
+    v[10] = tx3g.bottom as u64;
+    v[11] = tx3g.right as u64;
+    v[12] = tx3g.start_char as u64;
+    v[13] = tx3g.end_char as u64;
+    v[14] = tx3g.font_id as u64;
+    v[15] = tx3g.face_style_flags as u64;
+    v[16] = tx3g.font_size as u64;
+    v[17] = tx3g.text_red as u64;
+    v[18] = tx3g.text_green as u64;
+    v[19] = tx3g.text_blue as u64;
+    v[20] = tx3g.text_alpha as u64;
+    layout::write::by(out, KIND, ROW, v, rest)
+}
+
+// The record of a new entry: its samples are in the first data reference, the text is centred at the bottom (-1), white on
+// black, in 16 points of the font 1.
+pub fn fresh() -> Tx3g
+    ensures { λ r. ⌜ r ≡ freshOf ⌝ }
+{
+    Tx3g {
+        data_reference_index: 1,
+        display_flags: 0,
+        horizontal_justification: 1,
+        vertical_justification: 0xff,
+        background_red: 0,
+        background_green: 0,
+        background_blue: 0,
+        background_alpha: 255,
+        top: 0,
+        left: 0,
+        bottom: 0,
+        right: 0,
+        start_char: 0,
+        end_char: 0,
+        font_id: 1,
+        face_style_flags: 0,
+        font_size: 16,
+        text_red: 255,
+        text_green: 255,
+        text_blue: 255,
+        text_alpha: 255,
+    }
+}

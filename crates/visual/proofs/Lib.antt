@@ -1,0 +1,3 @@
+pub mod VisualLaws
+mod Unique
+mod Vectors

@@ -1,0 +1,126 @@
+// A sample entry of a visual track, of any kind (ISO/IEC 14496-12, 12.1.3): which data reference its samples are in, the
+// size of the picture, its resolutions as raw 16.16, how many frames a sample has, the 32 bytes of the compressor's name as
+// four numbers, and the depth. Behind them its boxes, to the entry's end. What is predefined or reserved is passed over.
+ghost use mathlib.Core.Path.{_≡_};
+ghost use Rattle.put.specs.Put.{wrote};
+ghost use Rattle.visual.specs.Visual.{visualOf, childrenOf, visualIn, freshOf};
+use layout::Field;
+use numbers::Refusal;
+use put::Put;
+
+pub struct Visual {
+    pub data_reference_index: u16,
+    pub width: u16,
+    pub height: u16,
+    pub horizresolution: u32,
+    pub vertresolution: u32,
+    pub frame_count: u16,
+    pub name0: u64,
+    pub name1: u64,
+    pub name2: u64,
+    pub name3: u64,
+    pub depth: u16,
+}
+
+pub enum Found {
+    Is(Visual),
+    Refused(Refusal),
+}
+
+pub const ROW: [Field; 24] = [
+    Field::Reserved(6, 0),
+    Field::Number(2),
+    Field::Reserved(2, 0),
+    Field::Reserved(2, 0),
+    Field::Reserved(4, 0),
+    Field::Reserved(4, 0),
+    Field::Reserved(4, 0),
+    Field::Number(2),
+    Field::Number(2),
+    Field::Number(4),
+    Field::Number(4),
+    Field::Reserved(4, 0),
+    Field::Number(2),
+    Field::Number(8),
+    Field::Number(8),
+    Field::Number(8),
+    Field::Number(8),
+    Field::Number(2),
+    Field::Reserved(2, 0xffff),
+    Field::Nothing,
+    Field::Nothing,
+    Field::Nothing,
+    Field::Nothing,
+    Field::Nothing,
+];
+
+pub fn read(part: &[u8], kind: u32) -> Found
+    ensures { λ r. ⌜ r ≡ visualOf kind (now (part .entry)) ⌝ }
+{
+    let got = layout::read::by(part, kind, ROW);
+    if got.number != 0 {
+        return Found::Refused(Refusal {
+            number: got.number,
+            detail: got.place,
+        });
+    }
+    let v = got.values;
+    Found::Is(Visual {
+        data_reference_index: v[0] as u16,
+        width: v[1] as u16,
+        height: v[2] as u16,
+        horizresolution: v[3] as u32,
+        vertresolution: v[4] as u32,
+        frame_count: v[5] as u16,
+        name0: v[6],
+        name1: v[7],
+        name2: v[8],
+        name3: v[9],
+        depth: v[10] as u16,
+    })
+}
+
+// The boxes behind the fields, as the part of the entry where they lie; no bytes where the entry is refused.
+pub fn children(part: &[u8], kind: u32) -> &[u8]
+    ensures { λ r. ⌜ now r ≡ childrenOf kind (now (part .entry)) ⌝ }
+{
+    layout::read::rest(part, kind, ROW)
+}
+
+pub fn write(visual: Visual, kind: u32, children: &[u8], out: &mut [u8]) -> Put
+    ensures { λ r. ⌜ wrote r (now (out .exit)) ≡ visualIn kind visual (now (children .entry)) (now (out .entry)) ⌝ }
+{
+    let mut v = [0; 24];
+    v[0] = visual.data_reference_index as u64;
+    v[1] = visual.width as u64;
+    v[2] = visual.height as u64;
+    v[3] = visual.horizresolution as u64;
+    v[4] = visual.vertresolution as u64;
+    v[5] = visual.frame_count as u64;
+    v[6] = visual.name0;
+    v[7] = visual.name1;
+    v[8] = visual.name2;
+    v[9] = visual.name3;
+    v[10] = visual.depth as u64;
+    layout::write::by(out, kind, ROW, v, children)
+}
+
+// The record of a new entry: its samples are in the first data reference, and the rest is what the standard gives where a
+// writer has nothing else to say. No compressor is named.
+pub fn fresh(width: u16, height: u16) -> Visual
+    ensures { λ r. ⌜ r ≡ freshOf width height ⌝ }
+{
+    Visual {
+        data_reference_index: 1,
+        width: width,
+        height: height,
+        horizresolution: 0x0048_0000,
+        vertresolution: 0x0048_0000,
+        frame_count: 1,
+        name0: 0,
+        name1: 0,
+        name2: 0,
+        name3: 0,
+        depth: 0x0018,
+    }
+}

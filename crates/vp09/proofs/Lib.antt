@@ -1,0 +1,3 @@
+pub mod Vp09Laws
+mod Unique
+mod Vectors

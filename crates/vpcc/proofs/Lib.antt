@@ -1,0 +1,3 @@
+pub mod VpccLaws
+mod Unique
+mod Vectors
