@@ -22,26 +22,10 @@ pub enum Found {
 
 pub const KIND: u32 = 0x636f3634;
 
-pub const ROW: [Field; 24] = [
+pub const ROW: [Field; 8] = [
     Field::Version(0, 0),
     Field::Flags,
     Field::Number(4),
-    Field::Nothing,
-    Field::Nothing,
-    Field::Nothing,
-    Field::Nothing,
-    Field::Nothing,
-    Field::Nothing,
-    Field::Nothing,
-    Field::Nothing,
-    Field::Nothing,
-    Field::Nothing,
-    Field::Nothing,
-    Field::Nothing,
-    Field::Nothing,
-    Field::Nothing,
-    Field::Nothing,
-    Field::Nothing,
     Field::Nothing,
     Field::Nothing,
     Field::Nothing,
@@ -52,7 +36,7 @@ pub const ROW: [Field; 24] = [
 pub fn read(part: &[u8]) -> Found
     ensures { λ r. ⌜ r ≡ co64Of (now (part .entry)) ⌝ }
 {
-    let got = layout::read::by(part, KIND, ROW);
+    let got = short::read::by(part, KIND, ROW);
     if got.number != 0 {
         return Found::Refused(Refusal {
             number: got.number,
@@ -89,11 +73,17 @@ pub fn write(co64: Co64, entries: &[u8], out: &mut [u8]) -> Put
             detail: 0,
         });
     }
-    let mut v = [0; 24];
-    v[0] = co64.version as u64;
-    v[1] = co64.flags as u64;
-    v[2] = co64.count as u64;
-    layout::write::by(out, KIND, ROW, v, entries)
+    let v = [
+        co64.version as u64,
+        co64.flags as u64,
+        co64.count as u64,
+        0,
+        0,
+        0,
+        0,
+        0,
+    ];
+    short::write::by(out, KIND, ROW, v, entries)
 }
 
 // The i-th offset, counted from 0, of the bytes of the entries.

@@ -24,26 +24,10 @@ pub enum Found {
 
 pub const KIND: u32 = 0x63747473;
 
-pub const ROW: [Field; 24] = [
+pub const ROW: [Field; 8] = [
     Field::Version(0, 1),
     Field::Flags,
     Field::Number(4),
-    Field::Nothing,
-    Field::Nothing,
-    Field::Nothing,
-    Field::Nothing,
-    Field::Nothing,
-    Field::Nothing,
-    Field::Nothing,
-    Field::Nothing,
-    Field::Nothing,
-    Field::Nothing,
-    Field::Nothing,
-    Field::Nothing,
-    Field::Nothing,
-    Field::Nothing,
-    Field::Nothing,
-    Field::Nothing,
     Field::Nothing,
     Field::Nothing,
     Field::Nothing,
@@ -54,7 +38,7 @@ pub const ROW: [Field; 24] = [
 pub fn read(part: &[u8]) -> Found
     ensures { λ r. ⌜ r ≡ cttsOf (now (part .entry)) ⌝ }
 {
-    let got = layout::read::by(part, KIND, ROW);
+    let got = short::read::by(part, KIND, ROW);
     if got.number != 0 {
         return Found::Refused(Refusal {
             number: got.number,
@@ -91,11 +75,17 @@ pub fn write(ctts: Ctts, entries: &[u8], out: &mut [u8]) -> Put
             detail: 0,
         });
     }
-    let mut v = [0; 24];
-    v[0] = ctts.version as u64;
-    v[1] = ctts.flags as u64;
-    v[2] = ctts.count as u64;
-    layout::write::by(out, KIND, ROW, v, entries)
+    let v = [
+        ctts.version as u64,
+        ctts.flags as u64,
+        ctts.count as u64,
+        0,
+        0,
+        0,
+        0,
+        0,
+    ];
+    short::write::by(out, KIND, ROW, v, entries)
 }
 
 // A pair of the table: so many samples with this offset.

@@ -20,26 +20,10 @@ pub enum Found {
 
 pub const KIND: u32 = 0x64726566;
 
-pub const ROW: [Field; 24] = [
+pub const ROW: [Field; 8] = [
     Field::Version(0, 0),
     Field::Flags,
     Field::Number(4),
-    Field::Nothing,
-    Field::Nothing,
-    Field::Nothing,
-    Field::Nothing,
-    Field::Nothing,
-    Field::Nothing,
-    Field::Nothing,
-    Field::Nothing,
-    Field::Nothing,
-    Field::Nothing,
-    Field::Nothing,
-    Field::Nothing,
-    Field::Nothing,
-    Field::Nothing,
-    Field::Nothing,
-    Field::Nothing,
     Field::Nothing,
     Field::Nothing,
     Field::Nothing,
@@ -50,7 +34,7 @@ pub const ROW: [Field; 24] = [
 pub fn read(part: &[u8]) -> Found
     ensures { λ r. ⌜ r ≡ drefOf (now (part .entry)) ⌝ }
 {
-    let got = layout::read::by(part, KIND, ROW);
+    let got = short::read::by(part, KIND, ROW);
     if got.number != 0 {
         return Found::Refused(Refusal {
             number: got.number,
@@ -69,15 +53,21 @@ pub fn read(part: &[u8]) -> Found
 pub fn entries(part: &[u8]) -> &[u8]
     ensures { λ r. ⌜ now r ≡ entriesOf (now (part .entry)) ⌝ }
 {
-    layout::read::rest(part, KIND, ROW)
+    short::read::rest(part, KIND, ROW)
 }
 
 pub fn write(dref: Dref, entries: &[u8], out: &mut [u8]) -> Put
     ensures { λ r. ⌜ wrote r (now (out .exit)) ≡ drefIn dref (now (entries .entry)) (now (out .entry)) ⌝ }
 {
-    let mut v = [0; 24];
-    v[0] = dref.version as u64;
-    v[1] = dref.flags as u64;
-    v[2] = dref.count as u64;
-    layout::write::by(out, KIND, ROW, v, entries)
+    let v = [
+        dref.version as u64,
+        dref.flags as u64,
+        dref.count as u64,
+        0,
+        0,
+        0,
+        0,
+        0,
+    ];
+    short::write::by(out, KIND, ROW, v, entries)
 }

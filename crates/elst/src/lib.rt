@@ -31,26 +31,10 @@ pub enum Found {
 
 pub const KIND: u32 = 0x656c7374;
 
-pub const ROW: [Field; 24] = [
+pub const ROW: [Field; 8] = [
     Field::Version(0, 1),
     Field::Flags,
     Field::Number(4),
-    Field::Nothing,
-    Field::Nothing,
-    Field::Nothing,
-    Field::Nothing,
-    Field::Nothing,
-    Field::Nothing,
-    Field::Nothing,
-    Field::Nothing,
-    Field::Nothing,
-    Field::Nothing,
-    Field::Nothing,
-    Field::Nothing,
-    Field::Nothing,
-    Field::Nothing,
-    Field::Nothing,
-    Field::Nothing,
     Field::Nothing,
     Field::Nothing,
     Field::Nothing,
@@ -86,7 +70,7 @@ fn bytes_of(version: u8, n: u32) -> usize
 pub fn read(part: &[u8]) -> Found
     ensures { λ r. ⌜ r ≡ elstOf (now (part .entry)) ⌝ }
 {
-    let got = layout::read::by(part, KIND, ROW);
+    let got = short::read::by(part, KIND, ROW);
     if got.number != 0 {
         return Found::Refused(Refusal {
             number: got.number,
@@ -125,11 +109,17 @@ pub fn write(elst: Elst, entries: &[u8], out: &mut [u8]) -> Put
             detail: 0,
         });
     };
-    let mut v = [0; 24];
-    v[0] = elst.version as u64;
-    v[1] = elst.flags as u64;
-    v[2] = elst.count as u64;
-    layout::write::by(out, KIND, ROW, v, entries)
+    let v = [
+        elst.version as u64,
+        elst.flags as u64,
+        elst.count as u64,
+        0,
+        0,
+        0,
+        0,
+        0,
+    ];
+    short::write::by(out, KIND, ROW, v, entries)
 }
 
 pub struct Edit {

@@ -20,7 +20,7 @@ pub enum Found {
 
 pub const KIND: u32 = 0x68646c72;
 
-pub const ROW: [Field; 24] = [
+pub const ROW: [Field; 8] = [
     Field::Version(0, 0),
     Field::Flags,
     Field::Reserved(4, 0),
@@ -29,28 +29,12 @@ pub const ROW: [Field; 24] = [
     Field::Reserved(4, 0),
     Field::Reserved(4, 0),
     Field::Nothing,
-    Field::Nothing,
-    Field::Nothing,
-    Field::Nothing,
-    Field::Nothing,
-    Field::Nothing,
-    Field::Nothing,
-    Field::Nothing,
-    Field::Nothing,
-    Field::Nothing,
-    Field::Nothing,
-    Field::Nothing,
-    Field::Nothing,
-    Field::Nothing,
-    Field::Nothing,
-    Field::Nothing,
-    Field::Nothing,
 ];
 
 pub fn read(part: &[u8]) -> Found
     ensures { λ r. ⌜ r ≡ hdlrOf (now (part .entry)) ⌝ }
 {
-    let got = layout::read::by(part, KIND, ROW);
+    let got = short::read::by(part, KIND, ROW);
     if got.number != 0 {
         return Found::Refused(Refusal {
             number: got.number,
@@ -69,15 +53,21 @@ pub fn read(part: &[u8]) -> Found
 pub fn name(part: &[u8]) -> &[u8]
     ensures { λ r. ⌜ now r ≡ nameOf (now (part .entry)) ⌝ }
 {
-    layout::read::rest(part, KIND, ROW)
+    short::read::rest(part, KIND, ROW)
 }
 
 pub fn write(hdlr: Hdlr, name: &[u8], out: &mut [u8]) -> Put
     ensures { λ r. ⌜ wrote r (now (out .exit)) ≡ hdlrIn hdlr (now (name .entry)) (now (out .entry)) ⌝ }
 {
-    let mut v = [0; 24];
-    v[0] = hdlr.version as u64;
-    v[1] = hdlr.flags as u64;
-    v[2] = hdlr.handler_type as u64;
-    layout::write::by(out, KIND, ROW, v, name)
+    let v = [
+        hdlr.version as u64,
+        hdlr.flags as u64,
+        hdlr.handler_type as u64,
+        0,
+        0,
+        0,
+        0,
+        0,
+    ];
+    short::write::by(out, KIND, ROW, v, name)
 }

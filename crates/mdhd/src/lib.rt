@@ -23,7 +23,7 @@ pub enum Found {
 
 pub const KIND: u32 = 0x6d646864;
 
-pub const ROW: [Field; 24] = [
+pub const ROW: [Field; 8] = [
     Field::Version(0, 1),
     Field::Flags,
     Field::Wide(4, 8),
@@ -32,28 +32,12 @@ pub const ROW: [Field; 24] = [
     Field::Wide(4, 8),
     Field::Number(2),
     Field::Reserved(2, 0),
-    Field::Nothing,
-    Field::Nothing,
-    Field::Nothing,
-    Field::Nothing,
-    Field::Nothing,
-    Field::Nothing,
-    Field::Nothing,
-    Field::Nothing,
-    Field::Nothing,
-    Field::Nothing,
-    Field::Nothing,
-    Field::Nothing,
-    Field::Nothing,
-    Field::Nothing,
-    Field::Nothing,
-    Field::Nothing,
 ];
 
 pub fn read(part: &[u8]) -> Found
     ensures { λ r. ⌜ r ≡ mdhdOf (now (part .entry)) ⌝ }
 {
-    let got = layout::read::by(part, KIND, ROW);
+    let got = short::read::by(part, KIND, ROW);
     if got.number != 0 {
         return Found::Refused(Refusal {
             number: got.number,
@@ -75,13 +59,15 @@ pub fn read(part: &[u8]) -> Found
 pub fn write(mdhd: Mdhd, out: &mut [u8]) -> Put
     ensures { λ r. ⌜ wrote r (now (out .exit)) ≡ mdhdIn mdhd (now (out .entry)) ⌝ }
 {
-    let mut v = [0; 24];
-    v[0] = mdhd.version as u64;
-    v[1] = mdhd.flags as u64;
-    v[2] = mdhd.creation_time;
-    v[3] = mdhd.modification_time;
-    v[4] = mdhd.timescale as u64;
-    v[5] = mdhd.duration;
-    v[6] = mdhd.language as u64;
-    layout::write::plain(out, KIND, ROW, v)
+    let v = [
+        mdhd.version as u64,
+        mdhd.flags as u64,
+        mdhd.creation_time,
+        mdhd.modification_time,
+        mdhd.timescale as u64,
+        mdhd.duration,
+        mdhd.language as u64,
+        0,
+    ];
+    short::write::plain(out, KIND, ROW, v)
 }

@@ -19,26 +19,10 @@ pub enum Found {
 
 pub const KIND: u32 = 0x6d666864;
 
-pub const ROW: [Field; 24] = [
+pub const ROW: [Field; 8] = [
     Field::Version(0, 0),
     Field::Flags,
     Field::Number(4),
-    Field::Nothing,
-    Field::Nothing,
-    Field::Nothing,
-    Field::Nothing,
-    Field::Nothing,
-    Field::Nothing,
-    Field::Nothing,
-    Field::Nothing,
-    Field::Nothing,
-    Field::Nothing,
-    Field::Nothing,
-    Field::Nothing,
-    Field::Nothing,
-    Field::Nothing,
-    Field::Nothing,
-    Field::Nothing,
     Field::Nothing,
     Field::Nothing,
     Field::Nothing,
@@ -49,7 +33,7 @@ pub const ROW: [Field; 24] = [
 pub fn read(part: &[u8]) -> Found
     ensures { λ r. ⌜ r ≡ mfhdOf (now (part .entry)) ⌝ }
 {
-    let got = layout::read::by(part, KIND, ROW);
+    let got = short::read::by(part, KIND, ROW);
     if got.number != 0 {
         return Found::Refused(Refusal {
             number: got.number,
@@ -67,9 +51,15 @@ pub fn read(part: &[u8]) -> Found
 pub fn write(mfhd: Mfhd, out: &mut [u8]) -> Put
     ensures { λ r. ⌜ wrote r (now (out .exit)) ≡ mfhdIn mfhd (now (out .entry)) ⌝ }
 {
-    let mut v = [0; 24];
-    v[0] = mfhd.version as u64;
-    v[1] = mfhd.flags as u64;
-    v[2] = mfhd.sequence_number as u64;
-    layout::write::plain(out, KIND, ROW, v)
+    let v = [
+        mfhd.version as u64,
+        mfhd.flags as u64,
+        mfhd.sequence_number as u64,
+        0,
+        0,
+        0,
+        0,
+        0,
+    ];
+    short::write::plain(out, KIND, ROW, v)
 }

@@ -24,26 +24,10 @@ pub enum Found {
 
 pub const KIND: u32 = 0x73747363;
 
-pub const ROW: [Field; 24] = [
+pub const ROW: [Field; 8] = [
     Field::Version(0, 0),
     Field::Flags,
     Field::Number(4),
-    Field::Nothing,
-    Field::Nothing,
-    Field::Nothing,
-    Field::Nothing,
-    Field::Nothing,
-    Field::Nothing,
-    Field::Nothing,
-    Field::Nothing,
-    Field::Nothing,
-    Field::Nothing,
-    Field::Nothing,
-    Field::Nothing,
-    Field::Nothing,
-    Field::Nothing,
-    Field::Nothing,
-    Field::Nothing,
     Field::Nothing,
     Field::Nothing,
     Field::Nothing,
@@ -62,7 +46,7 @@ const CELLS: [Cell; 4] = [
 pub fn read(part: &[u8]) -> Found
     ensures { λ r. ⌜ r ≡ stscOf (now (part .entry)) ⌝ }
 {
-    let got = layout::read::by(part, KIND, ROW);
+    let got = short::read::by(part, KIND, ROW);
     if got.number != 0 {
         return Found::Refused(Refusal {
             number: got.number,
@@ -101,11 +85,17 @@ pub fn write(stsc: Stsc, entries: &[u8], out: &mut [u8]) -> Put
             detail: 0,
         });
     };
-    let mut v = [0; 24];
-    v[0] = stsc.version as u64;
-    v[1] = stsc.flags as u64;
-    v[2] = stsc.count as u64;
-    layout::write::by(out, KIND, ROW, v, entries)
+    let v = [
+        stsc.version as u64,
+        stsc.flags as u64,
+        stsc.count as u64,
+        0,
+        0,
+        0,
+        0,
+        0,
+    ];
+    short::write::by(out, KIND, ROW, v, entries)
 }
 
 pub struct Run {

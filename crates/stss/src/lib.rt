@@ -23,26 +23,10 @@ pub enum Found {
 
 pub const KIND: u32 = 0x73747373;
 
-pub const ROW: [Field; 24] = [
+pub const ROW: [Field; 8] = [
     Field::Version(0, 0),
     Field::Flags,
     Field::Number(4),
-    Field::Nothing,
-    Field::Nothing,
-    Field::Nothing,
-    Field::Nothing,
-    Field::Nothing,
-    Field::Nothing,
-    Field::Nothing,
-    Field::Nothing,
-    Field::Nothing,
-    Field::Nothing,
-    Field::Nothing,
-    Field::Nothing,
-    Field::Nothing,
-    Field::Nothing,
-    Field::Nothing,
-    Field::Nothing,
     Field::Nothing,
     Field::Nothing,
     Field::Nothing,
@@ -56,7 +40,7 @@ const CELLS: [Cell; 4] = [Cell::Rising(4), Cell::Nothing, Cell::Nothing, Cell::N
 pub fn read(part: &[u8]) -> Found
     ensures { λ r. ⌜ r ≡ stssOf (now (part .entry)) ⌝ }
 {
-    let got = layout::read::by(part, KIND, ROW);
+    let got = short::read::by(part, KIND, ROW);
     if got.number != 0 {
         return Found::Refused(Refusal {
             number: got.number,
@@ -95,11 +79,17 @@ pub fn write(stss: Stss, entries: &[u8], out: &mut [u8]) -> Put
             detail: 0,
         });
     };
-    let mut v = [0; 24];
-    v[0] = stss.version as u64;
-    v[1] = stss.flags as u64;
-    v[2] = stss.count as u64;
-    layout::write::by(out, KIND, ROW, v, entries)
+    let v = [
+        stss.version as u64,
+        stss.flags as u64,
+        stss.count as u64,
+        0,
+        0,
+        0,
+        0,
+        0,
+    ];
+    short::write::by(out, KIND, ROW, v, entries)
 }
 
 // The i-th sample number, counted from 0, of the bytes of the entries.

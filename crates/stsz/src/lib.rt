@@ -24,27 +24,11 @@ pub enum Found {
 
 pub const KIND: u32 = 0x7374737a;
 
-pub const ROW: [Field; 24] = [
+pub const ROW: [Field; 8] = [
     Field::Version(0, 0),
     Field::Flags,
     Field::Number(4),
     Field::Number(4),
-    Field::Nothing,
-    Field::Nothing,
-    Field::Nothing,
-    Field::Nothing,
-    Field::Nothing,
-    Field::Nothing,
-    Field::Nothing,
-    Field::Nothing,
-    Field::Nothing,
-    Field::Nothing,
-    Field::Nothing,
-    Field::Nothing,
-    Field::Nothing,
-    Field::Nothing,
-    Field::Nothing,
-    Field::Nothing,
     Field::Nothing,
     Field::Nothing,
     Field::Nothing,
@@ -61,7 +45,7 @@ fn listed(common: u64, count: u64) -> u64
 pub fn read(part: &[u8]) -> Found
     ensures { λ r. ⌜ r ≡ stszOf (now (part .entry)) ⌝ }
 {
-    let got = layout::read::by(part, KIND, ROW);
+    let got = short::read::by(part, KIND, ROW);
     if got.number != 0 {
         return Found::Refused(Refusal {
             number: got.number,
@@ -99,12 +83,17 @@ pub fn write(stsz: Stsz, entries: &[u8], out: &mut [u8]) -> Put
             detail: 0,
         });
     }
-    let mut v = [0; 24];
-    v[0] = stsz.version as u64;
-    v[1] = stsz.flags as u64;
-    v[2] = stsz.sample_size as u64;
-    v[3] = stsz.count as u64;
-    layout::write::by(out, KIND, ROW, v, entries)
+    let v = [
+        stsz.version as u64,
+        stsz.flags as u64,
+        stsz.sample_size as u64,
+        stsz.count as u64,
+        0,
+        0,
+        0,
+        0,
+    ];
+    short::write::by(out, KIND, ROW, v, entries)
 }
 
 // The i-th size, counted from 0, of the bytes of the entries.

@@ -19,26 +19,10 @@ pub enum Found {
 
 pub const KIND: u32 = 0x74666474;
 
-pub const ROW: [Field; 24] = [
+pub const ROW: [Field; 8] = [
     Field::Version(0, 1),
     Field::Flags,
     Field::Wide(4, 8),
-    Field::Nothing,
-    Field::Nothing,
-    Field::Nothing,
-    Field::Nothing,
-    Field::Nothing,
-    Field::Nothing,
-    Field::Nothing,
-    Field::Nothing,
-    Field::Nothing,
-    Field::Nothing,
-    Field::Nothing,
-    Field::Nothing,
-    Field::Nothing,
-    Field::Nothing,
-    Field::Nothing,
-    Field::Nothing,
     Field::Nothing,
     Field::Nothing,
     Field::Nothing,
@@ -49,7 +33,7 @@ pub const ROW: [Field; 24] = [
 pub fn read(part: &[u8]) -> Found
     ensures { λ r. ⌜ r ≡ tfdtOf (now (part .entry)) ⌝ }
 {
-    let got = layout::read::by(part, KIND, ROW);
+    let got = short::read::by(part, KIND, ROW);
     if got.number != 0 {
         return Found::Refused(Refusal {
             number: got.number,
@@ -67,9 +51,15 @@ pub fn read(part: &[u8]) -> Found
 pub fn write(tfdt: Tfdt, out: &mut [u8]) -> Put
     ensures { λ r. ⌜ wrote r (now (out .exit)) ≡ tfdtIn tfdt (now (out .entry)) ⌝ }
 {
-    let mut v = [0; 24];
-    v[0] = tfdt.version as u64;
-    v[1] = tfdt.flags as u64;
-    v[2] = tfdt.base_media_decode_time;
-    layout::write::plain(out, KIND, ROW, v)
+    let v = [
+        tfdt.version as u64,
+        tfdt.flags as u64,
+        tfdt.base_media_decode_time,
+        0,
+        0,
+        0,
+        0,
+        0,
+    ];
+    short::write::plain(out, KIND, ROW, v)
 }

@@ -24,7 +24,7 @@ pub enum Found {
 
 pub const KIND: u32 = 0x74666864;
 
-pub const ROW: [Field; 24] = [
+pub const ROW: [Field; 8] = [
     Field::Version(0, 0),
     Field::Flags,
     Field::Least(4, 1),
@@ -33,28 +33,12 @@ pub const ROW: [Field; 24] = [
     Field::Optional(4, 8),
     Field::Optional(4, 16),
     Field::Optional(4, 32),
-    Field::Nothing,
-    Field::Nothing,
-    Field::Nothing,
-    Field::Nothing,
-    Field::Nothing,
-    Field::Nothing,
-    Field::Nothing,
-    Field::Nothing,
-    Field::Nothing,
-    Field::Nothing,
-    Field::Nothing,
-    Field::Nothing,
-    Field::Nothing,
-    Field::Nothing,
-    Field::Nothing,
-    Field::Nothing,
 ];
 
 pub fn read(part: &[u8]) -> Found
     ensures { λ r. ⌜ r ≡ tfhdOf (now (part .entry)) ⌝ }
 {
-    let got = layout::read::by(part, KIND, ROW);
+    let got = short::read::by(part, KIND, ROW);
     if got.number != 0 {
         return Found::Refused(Refusal {
             number: got.number,
@@ -77,14 +61,15 @@ pub fn read(part: &[u8]) -> Found
 pub fn write(tfhd: Tfhd, out: &mut [u8]) -> Put
     ensures { λ r. ⌜ wrote r (now (out .exit)) ≡ tfhdIn tfhd (now (out .entry)) ⌝ }
 {
-    let mut v = [0; 24];
-    v[0] = tfhd.version as u64;
-    v[1] = tfhd.flags as u64;
-    v[2] = tfhd.track_id as u64;
-    v[3] = tfhd.base_data_offset;
-    v[4] = tfhd.sample_description_index as u64;
-    v[5] = tfhd.default_sample_duration as u64;
-    v[6] = tfhd.default_sample_size as u64;
-    v[7] = tfhd.default_sample_flags as u64;
-    layout::write::plain(out, KIND, ROW, v)
+    let v = [
+        tfhd.version as u64,
+        tfhd.flags as u64,
+        tfhd.track_id as u64,
+        tfhd.base_data_offset,
+        tfhd.sample_description_index as u64,
+        tfhd.default_sample_duration as u64,
+        tfhd.default_sample_size as u64,
+        tfhd.default_sample_flags as u64,
+    ];
+    short::write::plain(out, KIND, ROW, v)
 }

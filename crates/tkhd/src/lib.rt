@@ -101,26 +101,31 @@ pub fn read(part: &[u8]) -> Found
 pub fn write(tkhd: Tkhd, out: &mut [u8]) -> Put
     ensures { λ r. ⌜ wrote r (now (out .exit)) ≡ tkhdIn tkhd (now (out .entry)) ⌝ }
 {
-    let mut v = [0; 24];
-    v[0] = tkhd.version as u64;
-    v[1] = tkhd.flags as u64;
-    v[2] = tkhd.creation_time;
-    v[3] = tkhd.modification_time;
-    v[4] = tkhd.track_id as u64;
-    v[5] = tkhd.duration;
-    v[6] = tkhd.layer as u64;
-    v[7] = tkhd.alternate_group as u64;
-    v[8] = tkhd.volume as u64;
-    v[9] = tkhd.matrix_a as u64;
-    v[10] = tkhd.matrix_b as u64;
-    v[11] = tkhd.matrix_u as u64;
-    v[12] = tkhd.matrix_c as u64;
-    v[13] = tkhd.matrix_d as u64;
-    v[14] = tkhd.matrix_v as u64;
-    v[15] = tkhd.matrix_x as u64;
-    v[16] = tkhd.matrix_y as u64;
-    v[17] = tkhd.matrix_w as u64;
-    v[18] = tkhd.width as u64;
-    v[19] = tkhd.height as u64;
+    let v = [
+        tkhd.version as u64,
+        tkhd.flags as u64,
+        tkhd.creation_time,
+        tkhd.modification_time,
+        tkhd.track_id as u64,
+        tkhd.duration,
+        tkhd.layer as u64,
+        tkhd.alternate_group as u64,
+        tkhd.volume as u64,
+        tkhd.matrix_a as u64,
+        tkhd.matrix_b as u64,
+        tkhd.matrix_u as u64,
+        tkhd.matrix_c as u64,
+        tkhd.matrix_d as u64,
+        tkhd.matrix_v as u64,
+        tkhd.matrix_x as u64,
+        tkhd.matrix_y as u64,
+        tkhd.matrix_w as u64,
+        tkhd.width as u64,
+        tkhd.height as u64,
+        0,
+        0,
+        0,
+        0,
+    ];
     layout::write::plain(out, KIND, ROW, v)
 }

@@ -23,7 +23,7 @@ pub enum Found {
 
 pub const KIND: u32 = 0x74726578;
 
-pub const ROW: [Field; 24] = [
+pub const ROW: [Field; 8] = [
     Field::Version(0, 0),
     Field::Flags,
     Field::Least(4, 1),
@@ -32,28 +32,12 @@ pub const ROW: [Field; 24] = [
     Field::Number(4),
     Field::Number(4),
     Field::Nothing,
-    Field::Nothing,
-    Field::Nothing,
-    Field::Nothing,
-    Field::Nothing,
-    Field::Nothing,
-    Field::Nothing,
-    Field::Nothing,
-    Field::Nothing,
-    Field::Nothing,
-    Field::Nothing,
-    Field::Nothing,
-    Field::Nothing,
-    Field::Nothing,
-    Field::Nothing,
-    Field::Nothing,
-    Field::Nothing,
 ];
 
 pub fn read(part: &[u8]) -> Found
     ensures { λ r. ⌜ r ≡ trexOf (now (part .entry)) ⌝ }
 {
-    let got = layout::read::by(part, KIND, ROW);
+    let got = short::read::by(part, KIND, ROW);
     if got.number != 0 {
         return Found::Refused(Refusal {
             number: got.number,
@@ -75,13 +59,15 @@ pub fn read(part: &[u8]) -> Found
 pub fn write(trex: Trex, out: &mut [u8]) -> Put
     ensures { λ r. ⌜ wrote r (now (out .exit)) ≡ trexIn trex (now (out .entry)) ⌝ }
 {
-    let mut v = [0; 24];
-    v[0] = trex.version as u64;
-    v[1] = trex.flags as u64;
-    v[2] = trex.track_id as u64;
-    v[3] = trex.default_sample_description_index as u64;
-    v[4] = trex.default_sample_duration as u64;
-    v[5] = trex.default_sample_size as u64;
-    v[6] = trex.default_sample_flags as u64;
-    layout::write::plain(out, KIND, ROW, v)
+    let v = [
+        trex.version as u64,
+        trex.flags as u64,
+        trex.track_id as u64,
+        trex.default_sample_description_index as u64,
+        trex.default_sample_duration as u64,
+        trex.default_sample_size as u64,
+        trex.default_sample_flags as u64,
+        0,
+    ];
+    short::write::plain(out, KIND, ROW, v)
 }

@@ -42,28 +42,12 @@ const FLAGS_BIT: u32 = 0x400;
 
 const COMPOSITION_BIT: u32 = 0x800;
 
-pub const ROW: [Field; 24] = [
+pub const ROW: [Field; 8] = [
     Field::Version(0, 1),
     Field::Flags,
     Field::Number(4),
     Field::Optional(4, DATA_OFFSET_BIT),
     Field::Optional(4, FIRST_FLAGS_BIT),
-    Field::Nothing,
-    Field::Nothing,
-    Field::Nothing,
-    Field::Nothing,
-    Field::Nothing,
-    Field::Nothing,
-    Field::Nothing,
-    Field::Nothing,
-    Field::Nothing,
-    Field::Nothing,
-    Field::Nothing,
-    Field::Nothing,
-    Field::Nothing,
-    Field::Nothing,
-    Field::Nothing,
-    Field::Nothing,
     Field::Nothing,
     Field::Nothing,
     Field::Nothing,
@@ -106,7 +90,7 @@ fn cells_of(flags: u32, n: u32) -> usize
 pub fn read(part: &[u8]) -> Found
     ensures { λ r. ⌜ r ≡ trunOf (now (part .entry)) ⌝ }
 {
-    let got = layout::read::by(part, KIND, ROW);
+    let got = short::read::by(part, KIND, ROW);
     if got.number != 0 {
         return Found::Refused(Refusal {
             number: got.number,
@@ -145,13 +129,17 @@ pub fn write(trun: Trun, entries: &[u8], out: &mut [u8]) -> Put
             detail: 0,
         });
     }
-    let mut v = [0; 24];
-    v[0] = trun.version as u64;
-    v[1] = trun.flags as u64;
-    v[2] = trun.sample_count as u64;
-    v[3] = trun.data_offset as u64;
-    v[4] = trun.first_sample_flags as u64;
-    layout::write::by(out, KIND, ROW, v, entries)
+    let v = [
+        trun.version as u64,
+        trun.flags as u64,
+        trun.sample_count as u64,
+        trun.data_offset as u64,
+        trun.first_sample_flags as u64,
+        0,
+        0,
+        0,
+    ];
+    short::write::by(out, KIND, ROW, v, entries)
 }
 
 // Two's complement of 4 bytes.

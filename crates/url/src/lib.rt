@@ -19,25 +19,9 @@ pub enum Found {
 
 pub const KIND: u32 = 0x75726c20;
 
-pub const ROW: [Field; 24] = [
+pub const ROW: [Field; 8] = [
     Field::Version(0, 0),
     Field::Flags,
-    Field::Nothing,
-    Field::Nothing,
-    Field::Nothing,
-    Field::Nothing,
-    Field::Nothing,
-    Field::Nothing,
-    Field::Nothing,
-    Field::Nothing,
-    Field::Nothing,
-    Field::Nothing,
-    Field::Nothing,
-    Field::Nothing,
-    Field::Nothing,
-    Field::Nothing,
-    Field::Nothing,
-    Field::Nothing,
     Field::Nothing,
     Field::Nothing,
     Field::Nothing,
@@ -49,7 +33,7 @@ pub const ROW: [Field; 24] = [
 pub fn read(part: &[u8]) -> Found
     ensures { λ r. ⌜ r ≡ urlOf (now (part .entry)) ⌝ }
 {
-    let got = layout::read::by(part, KIND, ROW);
+    let got = short::read::by(part, KIND, ROW);
     if got.number != 0 {
         return Found::Refused(Refusal {
             number: got.number,
@@ -67,14 +51,21 @@ pub fn read(part: &[u8]) -> Found
 pub fn location(part: &[u8]) -> &[u8]
     ensures { λ r. ⌜ now r ≡ locationOf (now (part .entry)) ⌝ }
 {
-    layout::read::rest(part, KIND, ROW)
+    short::read::rest(part, KIND, ROW)
 }
 
 pub fn write(url: Url, location: &[u8], out: &mut [u8]) -> Put
     ensures { λ r. ⌜ wrote r (now (out .exit)) ≡ urlIn url (now (location .entry)) (now (out .entry)) ⌝ }
 {
-    let mut v = [0; 24];
-    v[0] = url.version as u64;
-    v[1] = url.flags as u64;
-    layout::write::by(out, KIND, ROW, v, location)
+    let v = [
+        url.version as u64,
+        url.flags as u64,
+        0,
+        0,
+        0,
+        0,
+        0,
+        0,
+    ];
+    short::write::by(out, KIND, ROW, v, location)
 }

@@ -15,23 +15,14 @@ mul-size c = search needs
 returns : tie.Need-returns
 returns c = is-ne _ _ _ (length (c .before .before .before .before .args .entries .now)) (c .before .before .before .before .args .co64 .count * 8) (c .if1 .taken) refl
 
-cast-v : tie.Need-cast-v
-cast-v c = search needs
+cast-t6 : tie.Need-cast-t6
+cast-t6 c = search needs
 
-array-write-v : tie.Need-array-write-v
-array-write-v c = search needs
+cast-t10 : tie.Need-cast-t10
+cast-t10 c = search needs
 
-cast-v-2 : tie.Need-cast-v-2
-cast-v-2 c = search needs
-
-array-write-v-2 : tie.Need-array-write-v-2
-array-write-v-2 c = search needs
-
-cast-v-3 : tie.Need-cast-v-3
-cast-v-3 c = search needs
-
-array-write-v-3 : tie.Need-array-write-v-3
-array-write-v-3 c = search needs
+cast-t11 : tie.Need-cast-t11
+cast-t11 c = search needs
 
 by-requires : tie.Need-by-requires
 by-requires c κs = search needs
@@ -45,16 +36,4 @@ returns-2 c = is-eq _ _ _ (length (c .before .before .before .before .before .be
 pub write-spec : {M : Type 1} → statement M
 write-spec =
     tie.close
-    (tie.spec
-    cast-size
-    mul-size
-    returns
-    cast-v
-    array-write-v
-    cast-v-2
-    array-write-v-2
-    cast-v-3
-    array-write-v-3
-    by-requires
-    same-length
-    returns-2)
+    (tie.spec cast-size mul-size returns cast-t6 cast-t10 cast-t11 by-requires same-length returns-2)

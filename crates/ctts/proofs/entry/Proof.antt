@@ -46,16 +46,4 @@ returns-3 c = has by32 4 _ _ _ (c .before .before .before .before .before .befor
 pub entry-spec : {M : Type 1} → statement M
 entry-spec =
     tie.close
-    (tie.spec
-    mul-at
-    u32-at-requires
-    enum-known-count
-    enum-told
-    returns
-    add-i32-at
-    i32-at-requires
-    enum-known-offset
-    enum-told-2
-    add-t10
-    returns-2
-    returns-3)
+    (tie.spec mul-at u32-at-requires enum-known-count enum-told returns add-i32-at i32-at-requires enum-known-offset enum-told-2 add-t10 returns-2 returns-3)

@@ -19,26 +19,26 @@ by-requires c κs = search needs
 returns : tie.Need-returns
 returns c = table-no Is Refused from cells 4 (c .before .before .before .before .args .part .now) _ _ (c .before .before .by .ensures) (c .if1 .taken)
 
-array-read-t39 : tie.Need-array-read-t39
-array-read-t39 c = search needs
+array-read-t23 : tie.Need-array-read-t23
+array-read-t23 c = search needs
 
-cast-t40 : tie.Need-cast-t40
+cast-t24 : tie.Need-cast-t24
 unfolding limit most ruleOf when
-cast-t40 c = omega (arith, fits kind fields (c .before .before .before .before .before .args .part .now) 0 1 _ (c .before .before .before .by .ensures) refl)
+cast-t24 c = omega (arith, fits kind fields (c .before .before .before .before .before .args .part .now) 0 1 _ (c .before .before .before .by .ensures) refl)
 
-array-read-t43 : tie.Need-array-read-t43
-array-read-t43 c = search needs
+array-read-t27 : tie.Need-array-read-t27
+array-read-t27 c = search needs
 
-cast-t44 : tie.Need-cast-t44
+cast-t28 : tie.Need-cast-t28
 unfolding limit most ruleOf when
-cast-t44 c = omega (arith, fits kind fields (c .before .before .before .before .before .args .part .now) 1 16777215 _ (c .before .before .before .by .ensures) refl)
+cast-t28 c = omega (arith, fits kind fields (c .before .before .before .before .before .args .part .now) 1 16777215 _ (c .before .before .before .by .ensures) refl)
 
-array-read-t47 : tie.Need-array-read-t47
-array-read-t47 c = search needs
+array-read-t31 : tie.Need-array-read-t31
+array-read-t31 c = search needs
 
-cast-t48 : tie.Need-cast-t48
+cast-t32 : tie.Need-cast-t32
 unfolding limit most ruleOf when
-cast-t48 c = omega (arith, fits kind fields (c .before .before .before .before .before .args .part .now) 2 4294967295 _ (c .before .before .before .by .ensures) refl)
+cast-t32 c = omega (arith, fits kind fields (c .before .before .before .before .before .args .part .now) 2 4294967295 _ (c .before .before .before .by .ensures) refl)
 
 array-read-cells : tie.Need-array-read-cells
 array-read-cells c = search needs
@@ -68,20 +68,4 @@ returns-3 c = table-cut Is Refused from cells 4 (c .before .before .before .befo
 pub read-spec : {M : Type 1} → statement M
 read-spec =
     tie.close
-    (tie.spec
-    by-requires
-    returns
-    array-read-t39
-    cast-t40
-    array-read-t43
-    cast-t44
-    array-read-t47
-    cast-t48
-    array-read-cells
-    mul-cells
-    slice-aggregate-first-cut
-    first-cut-requires
-    enum-told
-    enum-known-cut
-    returns-2
-    returns-3)
+    (tie.spec by-requires returns array-read-t23 cast-t24 array-read-t27 cast-t28 array-read-t31 cast-t32 array-read-cells mul-cells slice-aggregate-first-cut first-cut-requires enum-told enum-known-cut returns-2 returns-3)

@@ -33,12 +33,4 @@ returns-3 c = has-not by32 4 _ _ _ (c .before .before .before .u32-at .ensures) 
 pub duration-at-spec : {M : Type 1} → statement M
 duration-at-spec =
     tie.close
-    (tie.spec
-    u64-at-requires
-    returns
-    u32-at-requires
-    enum-known-n
-    cast-t9
-    enum-known-q
-    returns-2
-    returns-3)
+    (tie.spec u64-at-requires returns u32-at-requires enum-known-n cast-t9 enum-known-q returns-2 returns-3)

@@ -91,26 +91,4 @@ returns-5 c = has by64 (width (c .before .before .before .before .before .before
 pub entry-spec : {M : Type 1} → statement M
 entry-spec =
     tie.close
-    (tie.spec
-    width-of-requires
-    bytes-of-requires
-    duration-at-requires
-    enum-known-duration
-    enum-told
-    returns
-    add-second
-    time-at-requires
-    enum-known-time
-    enum-told-2
-    returns-2
-    add-third
-    i16-at-requires
-    enum-known-rate
-    enum-told-3
-    returns-3
-    add-fourth
-    i16-at-requires-2
-    enum-known-fraction
-    enum-told-4
-    returns-4
-    returns-5)
+    (tie.spec width-of-requires bytes-of-requires duration-at-requires enum-known-duration enum-told returns add-second time-at-requires enum-known-time enum-told-2 returns-2 add-third i16-at-requires enum-known-rate enum-told-3 returns-3 add-fourth i16-at-requires-2 enum-known-fraction enum-told-4 returns-4 returns-5)

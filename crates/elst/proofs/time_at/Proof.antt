@@ -46,12 +46,4 @@ returns-3 c = signed-not signs32 4 _ _ _ (c .before .before .before .i32-at .ens
 pub time-at-spec : {M : Type 1} → statement M
 time-at-spec =
     tie.close
-    (tie.spec
-    i64-at-requires
-    returns
-    i32-at-requires
-    enum-known-n
-    cast-t9
-    enum-known-q
-    returns-2
-    returns-3)
+    (tie.spec i64-at-requires returns i32-at-requires enum-known-n cast-t9 enum-known-q returns-2 returns-3)

@@ -30,23 +30,14 @@ enum-told-2 c = search needs
 returns-2 : tie.Need-returns-2
 returns-2 c = is-eq _ _ _ (length (c .before .before .before .before .before .before .before .before .args .entries .now)) (c .before .before .before .before .before .before .before .before .args .elst .count * edit (c .before .before .before .before .before .before .before .before .args .elst .version)) (c .before .before .before .before .if1 .left ∙ c .before .before .before .before .before .bytes-of .ensures) (unsettles _ _ _ _ (by-cells _ _ _ _ _ _ (c .before .before .judge .ensures) (c .before .before .before .cells-of .ensures)) _ (c .enum-told2 .given .1) _ refl)
 
-cast-v : tie.Need-cast-v
-cast-v c = search needs
+cast-t12 : tie.Need-cast-t12
+cast-t12 c = search needs
 
-array-write-v : tie.Need-array-write-v
-array-write-v c = search needs
+cast-t13 : tie.Need-cast-t13
+cast-t13 c = search needs
 
-cast-v-2 : tie.Need-cast-v-2
-cast-v-2 c = search needs
-
-array-write-v-2 : tie.Need-array-write-v-2
-array-write-v-2 c = search needs
-
-cast-v-3 : tie.Need-cast-v-3
-cast-v-3 c = search needs
-
-array-write-v-3 : tie.Need-array-write-v-3
-array-write-v-3 c = search needs
+cast-t14 : tie.Need-cast-t14
+cast-t14 c = search needs
 
 by-requires : tie.Need-by-requires
 by-requires c κs = search needs
@@ -60,20 +51,4 @@ returns-3 c = is-eq _ _ _ (length (c .before .before .before .before .before .be
 pub write-spec : {M : Type 1} → statement M
 write-spec =
     tie.close
-    (tie.spec
-    bytes-of-requires
-    returns
-    cells-of-requires
-    judge-requires
-    enum-told
-    enum-told-2
-    returns-2
-    cast-v
-    array-write-v
-    cast-v-2
-    array-write-v-2
-    cast-v-3
-    array-write-v-3
-    by-requires
-    same-length
-    returns-3)
+    (tie.spec bytes-of-requires returns cells-of-requires judge-requires enum-told enum-told-2 returns-2 cast-t12 cast-t13 cast-t14 by-requires same-length returns-3)

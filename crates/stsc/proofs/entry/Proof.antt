@@ -61,22 +61,4 @@ returns-4 c = has by32 4 _ _ _ (c .before .before .before .before .before .befor
 pub entry-spec : {M : Type 1} → statement M
 entry-spec =
     tie.close
-    (tie.spec
-    mul-at
-    u32-at-requires
-    enum-known-chunk
-    enum-told
-    returns
-    add-u32-at
-    u32-at-requires-2
-    enum-known-samples
-    enum-told-2
-    add-t11
-    returns-2
-    add-u32-at-2
-    u32-at-requires-3
-    enum-known-description
-    enum-told-3
-    add-t14
-    returns-3
-    returns-4)
+    (tie.spec mul-at u32-at-requires enum-known-chunk enum-told returns add-u32-at u32-at-requires-2 enum-known-samples enum-told-2 add-t11 returns-2 add-u32-at-2 u32-at-requires-3 enum-known-description enum-told-3 add-t14 returns-3 returns-4)

@@ -38,14 +38,4 @@ returns-3 c = not-read (c .before .before .before .before .before .args .part .n
 pub entry-spec : {M : Type 1} → statement M
 entry-spec =
     tie.close
-    (tie.spec
-    read-requires
-    enum-known-stsd
-    slice-aggregate-result
-    returns
-    entries-requires
-    nth-box-requires
-    enum-told
-    slice-aggregate-result-2
-    returns-2
-    returns-3)
+    (tie.spec read-requires enum-known-stsd slice-aggregate-result returns entries-requires nth-box-requires enum-told slice-aggregate-result-2 returns-2 returns-3)

@@ -19,26 +19,26 @@ by-requires c κs = search needs
 returns : tie.Need-returns
 returns c = judged-no Is Refused from judge (c .before .before .before .before .args .part .now) _ _ (c .before .before .by .ensures) (c .if1 .taken)
 
-array-read-t37 : tie.Need-array-read-t37
-array-read-t37 c = search needs
+array-read-t21 : tie.Need-array-read-t21
+array-read-t21 c = search needs
 
-cast-t38 : tie.Need-cast-t38
+cast-t22 : tie.Need-cast-t22
 unfolding limit most ruleOf when
-cast-t38 c = omega (arith, fits kind fields (c .before .before .before .before .before .args .part .now) 0 0 _ (c .before .before .before .by .ensures) refl)
+cast-t22 c = omega (arith, fits kind fields (c .before .before .before .before .before .args .part .now) 0 0 _ (c .before .before .before .by .ensures) refl)
 
-array-read-t41 : tie.Need-array-read-t41
-array-read-t41 c = search needs
+array-read-t25 : tie.Need-array-read-t25
+array-read-t25 c = search needs
 
-cast-t42 : tie.Need-cast-t42
+cast-t26 : tie.Need-cast-t26
 unfolding limit most ruleOf when
-cast-t42 c = omega (arith, fits kind fields (c .before .before .before .before .before .args .part .now) 1 16777215 _ (c .before .before .before .by .ensures) refl)
+cast-t26 c = omega (arith, fits kind fields (c .before .before .before .before .before .args .part .now) 1 16777215 _ (c .before .before .before .by .ensures) refl)
 
-array-read-t45 : tie.Need-array-read-t45
-array-read-t45 c = search needs
+array-read-t29 : tie.Need-array-read-t29
+array-read-t29 c = search needs
 
-cast-t46 : tie.Need-cast-t46
+cast-t30 : tie.Need-cast-t30
 unfolding limit most ruleOf when
-cast-t46 c = omega (arith, fits kind fields (c .before .before .before .before .before .args .part .now) 2 4294967295 _ (c .before .before .before .by .ensures) refl)
+cast-t30 c = omega (arith, fits kind fields (c .before .before .before .before .before .args .part .now) 2 4294967295 _ (c .before .before .before .by .ensures) refl)
 
 slice-aggregate-judge : tie.Need-slice-aggregate-judge
 slice-aggregate-judge c = sym (length-take-le _ (c .before .before .before .before .before .before .args .part .now) (end-in kind fields (c .before .before .before .before .before .before .args .part .now) _ (c .before .before .before .before .by .ensures)))
@@ -61,18 +61,4 @@ returns-3 c = judged-wrong Is Refused from judge (c .before .before .before .bef
 pub read-spec : {M : Type 1} → statement M
 read-spec =
     tie.close
-    (tie.spec
-    by-requires
-    returns
-    array-read-t37
-    cast-t38
-    array-read-t41
-    cast-t42
-    array-read-t45
-    cast-t46
-    slice-aggregate-judge
-    judge-requires
-    enum-told
-    enum-known-q
-    returns-2
-    returns-3)
+    (tie.spec by-requires returns array-read-t21 cast-t22 array-read-t25 cast-t26 array-read-t29 cast-t30 slice-aggregate-judge judge-requires enum-told enum-known-q returns-2 returns-3)

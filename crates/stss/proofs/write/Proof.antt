@@ -28,23 +28,14 @@ enum-told-2 c = search needs
 returns-2 : tie.Need-returns-2
 returns-2 c = is-eq _ _ _ (length (c .before .before .before .before .before .before .before .args .entries .now)) (c .before .before .before .before .before .before .before .args .stss .count * 4) (c .before .before .before .if1 .left) (unsettles _ _ _ _ (c .before .before .judge .ensures) _ (c .enum-told2 .given .1) _ refl)
 
-cast-v : tie.Need-cast-v
-cast-v c = search needs
+cast-t6 : tie.Need-cast-t6
+cast-t6 c = search needs
 
-array-write-v : tie.Need-array-write-v
-array-write-v c = search needs
+cast-t17 : tie.Need-cast-t17
+cast-t17 c = search needs
 
-cast-v-2 : tie.Need-cast-v-2
-cast-v-2 c = search needs
-
-array-write-v-2 : tie.Need-array-write-v-2
-array-write-v-2 c = search needs
-
-cast-v-3 : tie.Need-cast-v-3
-cast-v-3 c = search needs
-
-array-write-v-3 : tie.Need-array-write-v-3
-array-write-v-3 c = search needs
+cast-t18 : tie.Need-cast-t18
+cast-t18 c = search needs
 
 by-requires : tie.Need-by-requires
 by-requires c κs = search needs
@@ -58,20 +49,4 @@ returns-3 c = is-eq _ _ _ (length (c .before .before .before .before .before .be
 pub write-spec : {M : Type 1} → statement M
 write-spec =
     tie.close
-    (tie.spec
-    cast-size
-    mul-size
-    returns
-    judge-requires
-    enum-told
-    enum-told-2
-    returns-2
-    cast-v
-    array-write-v
-    cast-v-2
-    array-write-v-2
-    cast-v-3
-    array-write-v-3
-    by-requires
-    same-length
-    returns-3)
+    (tie.spec cast-size mul-size returns judge-requires enum-told enum-told-2 returns-2 cast-t6 cast-t17 cast-t18 by-requires same-length returns-3)

@@ -24,29 +24,17 @@ mul-size c = omega (arith, c .listed .ensures, listed-most (c .before .before .b
 returns : tie.Need-returns
 returns c = is-ne _ _ _ (length (c .before .before .before .before .before .before .args .entries .now)) (listedOf (c .before .before .before .before .before .before .args .stsz .«sample_size») (c .before .before .before .before .before .before .args .stsz .count) * 4) (λ e. c .if1 .taken (e ∙ sym (ap (λ k. k * 4) (c .before .listed .ensures)))) refl
 
-cast-v : tie.Need-cast-v
-cast-v c = search needs
+cast-t8 : tie.Need-cast-t8
+cast-t8 c = search needs
 
-array-write-v : tie.Need-array-write-v
-array-write-v c = search needs
+cast-t7 : tie.Need-cast-t7
+cast-t7 c = search needs
 
-cast-v-2 : tie.Need-cast-v-2
-cast-v-2 c = search needs
+cast-t6 : tie.Need-cast-t6
+cast-t6 c = search needs
 
-array-write-v-2 : tie.Need-array-write-v-2
-array-write-v-2 c = search needs
-
-cast-v-3 : tie.Need-cast-v-3
-cast-v-3 c = search needs
-
-array-write-v-3 : tie.Need-array-write-v-3
-array-write-v-3 c = search needs
-
-cast-v-4 : tie.Need-cast-v-4
-cast-v-4 c = search needs
-
-array-write-v-4 : tie.Need-array-write-v-4
-array-write-v-4 c = search needs
+cast-t12 : tie.Need-cast-t12
+cast-t12 c = search needs
 
 by-requires : tie.Need-by-requires
 by-requires c κs = search needs
@@ -60,20 +48,4 @@ returns-2 c = is-eq _ _ _ (length (c .before .before .before .before .before .be
 pub write-spec : {M : Type 1} → statement M
 write-spec =
     tie.close
-    (tie.spec
-    cast-listed
-    cast-listed-2
-    listed-requires
-    mul-size
-    returns
-    cast-v
-    array-write-v
-    cast-v-2
-    array-write-v-2
-    cast-v-3
-    array-write-v-3
-    cast-v-4
-    array-write-v-4
-    by-requires
-    same-length
-    returns-2)
+    (tie.spec cast-listed cast-listed-2 listed-requires mul-size returns cast-t8 cast-t7 cast-t6 cast-t12 by-requires same-length returns-2)

@@ -16,57 +16,57 @@ by-requires c κs = search needs
 returns : tie.Need-returns
 returns c = told-no Is Refused from _ _ (c .before .before .by .ensures) (c .if1 .taken)
 
-array-read-t33 : tie.Need-array-read-t33
-array-read-t33 c = search needs
+array-read-t17 : tie.Need-array-read-t17
+array-read-t17 c = search needs
 
-cast-t34 : tie.Need-cast-t34
+cast-t18 : tie.Need-cast-t18
 unfolding limit most ruleOf when
-cast-t34 c = omega (arith, fits kind fields (c .before .before .before .before .before .args .part .now) 0 0 _ (c .before .before .before .by .ensures) refl)
+cast-t18 c = omega (arith, fits kind fields (c .before .before .before .before .before .args .part .now) 0 0 _ (c .before .before .before .by .ensures) refl)
 
-array-read-t37 : tie.Need-array-read-t37
-array-read-t37 c = search needs
+array-read-t21 : tie.Need-array-read-t21
+array-read-t21 c = search needs
 
-cast-t38 : tie.Need-cast-t38
+cast-t22 : tie.Need-cast-t22
 unfolding limit most ruleOf when
-cast-t38 c = omega (arith, fits kind fields (c .before .before .before .before .before .args .part .now) 1 16777215 _ (c .before .before .before .by .ensures) refl)
+cast-t22 c = omega (arith, fits kind fields (c .before .before .before .before .before .args .part .now) 1 16777215 _ (c .before .before .before .by .ensures) refl)
 
-array-read-t41 : tie.Need-array-read-t41
-array-read-t41 c = search needs
+array-read-t25 : tie.Need-array-read-t25
+array-read-t25 c = search needs
 
-cast-t42 : tie.Need-cast-t42
+cast-t26 : tie.Need-cast-t26
 unfolding limit most ruleOf when
-cast-t42 c = omega (arith, fits kind fields (c .before .before .before .before .before .args .part .now) 2 4294967295 _ (c .before .before .before .by .ensures) refl)
+cast-t26 c = omega (arith, fits kind fields (c .before .before .before .before .before .args .part .now) 2 4294967295 _ (c .before .before .before .by .ensures) refl)
 
-array-read-t45 : tie.Need-array-read-t45
-array-read-t45 c = search needs
+array-read-t29 : tie.Need-array-read-t29
+array-read-t29 c = search needs
 
-array-read-t48 : tie.Need-array-read-t48
-array-read-t48 c = search needs
+array-read-t32 : tie.Need-array-read-t32
+array-read-t32 c = search needs
 
-cast-t49 : tie.Need-cast-t49
+cast-t33 : tie.Need-cast-t33
 unfolding limit most ruleOf when
-cast-t49 c = omega (arith, fits kind fields (c .before .before .before .before .before .args .part .now) 4 4294967295 _ (c .before .before .before .by .ensures) refl)
+cast-t33 c = omega (arith, fits kind fields (c .before .before .before .before .before .args .part .now) 4 4294967295 _ (c .before .before .before .by .ensures) refl)
 
-array-read-t52 : tie.Need-array-read-t52
-array-read-t52 c = search needs
+array-read-t36 : tie.Need-array-read-t36
+array-read-t36 c = search needs
 
-cast-t53 : tie.Need-cast-t53
+cast-t37 : tie.Need-cast-t37
 unfolding limit most ruleOf when
-cast-t53 c = omega (arith, fits kind fields (c .before .before .before .before .before .args .part .now) 5 4294967295 _ (c .before .before .before .by .ensures) refl)
+cast-t37 c = omega (arith, fits kind fields (c .before .before .before .before .before .args .part .now) 5 4294967295 _ (c .before .before .before .by .ensures) refl)
 
-array-read-t56 : tie.Need-array-read-t56
-array-read-t56 c = search needs
+array-read-t40 : tie.Need-array-read-t40
+array-read-t40 c = search needs
 
-cast-t57 : tie.Need-cast-t57
+cast-t41 : tie.Need-cast-t41
 unfolding limit most ruleOf when
-cast-t57 c = omega (arith, fits kind fields (c .before .before .before .before .before .args .part .now) 6 4294967295 _ (c .before .before .before .by .ensures) refl)
+cast-t41 c = omega (arith, fits kind fields (c .before .before .before .before .before .args .part .now) 6 4294967295 _ (c .before .before .before .by .ensures) refl)
 
-array-read-t60 : tie.Need-array-read-t60
-array-read-t60 c = search needs
+array-read-t44 : tie.Need-array-read-t44
+array-read-t44 c = search needs
 
-cast-t61 : tie.Need-cast-t61
+cast-t45 : tie.Need-cast-t45
 unfolding limit most ruleOf when
-cast-t61 c = omega (arith, fits kind fields (c .before .before .before .before .before .args .part .now) 7 4294967295 _ (c .before .before .before .by .ensures) refl)
+cast-t45 c = omega (arith, fits kind fields (c .before .before .before .before .before .args .part .now) 7 4294967295 _ (c .before .before .before .by .ensures) refl)
 
 returns-2 : tie.Need-returns-2
 returns-2 c = told-is Is Refused from _ _ (c .before .before .before .by .ensures) (c .before .if1 .left)
@@ -74,22 +74,4 @@ returns-2 c = told-is Is Refused from _ _ (c .before .before .before .by .ensure
 pub read-spec : {M : Type 1} → statement M
 read-spec =
     tie.close
-    (tie.spec
-    by-requires
-    returns
-    array-read-t33
-    cast-t34
-    array-read-t37
-    cast-t38
-    array-read-t41
-    cast-t42
-    array-read-t45
-    array-read-t48
-    cast-t49
-    array-read-t52
-    cast-t53
-    array-read-t56
-    cast-t57
-    array-read-t60
-    cast-t61
-    returns-2)
+    (tie.spec by-requires returns array-read-t17 cast-t18 array-read-t21 cast-t22 array-read-t25 cast-t26 array-read-t29 array-read-t32 cast-t33 array-read-t36 cast-t37 array-read-t40 cast-t41 array-read-t44 cast-t45 returns-2)

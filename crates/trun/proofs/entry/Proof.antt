@@ -98,33 +98,4 @@ returns-5 c = is-sample (c .before .before .before .before .before .before .befo
 pub entry-spec : {M : Type 1} → statement M
 entry-spec =
     tie.close
-    (tie.spec
-    cells-of-requires
-    mul-first
-    value-at-requires
-    enum-known-duration
-    enum-told
-    returns
-    present-of-requires
-    mul-second
-    add-second
-    value-at-requires-2
-    enum-known-size
-    enum-told-2
-    returns-2
-    present-of-requires-2
-    mul-third
-    add-third
-    value-at-requires-3
-    enum-known-own
-    enum-told-3
-    returns-3
-    present-of-requires-3
-    mul-fourth
-    add-fourth
-    value-at-requires-4
-    enum-known-offset
-    enum-told-4
-    returns-4
-    composition-of-requires
-    returns-5)
+    (tie.spec cells-of-requires mul-first value-at-requires enum-known-duration enum-told returns present-of-requires mul-second add-second value-at-requires-2 enum-known-size enum-told-2 returns-2 present-of-requires-2 mul-third add-third value-at-requires-3 enum-known-own enum-told-3 returns-3 present-of-requires-3 mul-fourth add-fourth value-at-requires-4 enum-known-offset enum-told-4 returns-4 composition-of-requires returns-5)

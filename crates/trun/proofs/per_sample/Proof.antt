@@ -31,12 +31,4 @@ returns c = search needs
 pub per-sample-spec : {M : Type 1} → statement M
 per-sample-spec =
     tie.close
-    (tie.spec
-    present-of-requires
-    present-of-requires-2
-    present-of-requires-3
-    present-of-requires-4
-    add-result
-    add-result-2
-    add-result-3
-    returns)
+    (tie.spec present-of-requires present-of-requires-2 present-of-requires-3 present-of-requires-4 add-result add-result-2 add-result-3 returns)

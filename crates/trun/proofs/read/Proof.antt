@@ -20,40 +20,40 @@ by-requires c κs = search needs
 returns : tie.Need-returns
 returns c = table-no Is Refused from cells 4 (c .before .before .before .before .args .part .now) _ _ (c .before .before .by .ensures) (c .if1 .taken)
 
+array-read-t23 : tie.Need-array-read-t23
+array-read-t23 c = search needs
+
+cast-t24 : tie.Need-cast-t24
+unfolding limit most ruleOf when
+cast-t24 c = omega (arith, fits kind fields (c .before .before .before .before .before .args .part .now) 0 1 _ (c .before .before .before .by .ensures) refl)
+
+array-read-t27 : tie.Need-array-read-t27
+array-read-t27 c = search needs
+
+cast-t28 : tie.Need-cast-t28
+unfolding limit most ruleOf when
+cast-t28 c = omega (arith, fits kind fields (c .before .before .before .before .before .args .part .now) 1 16777215 _ (c .before .before .before .by .ensures) refl)
+
+array-read-t31 : tie.Need-array-read-t31
+array-read-t31 c = search needs
+
+cast-t32 : tie.Need-cast-t32
+unfolding limit most ruleOf when
+cast-t32 c = omega (arith, fits kind fields (c .before .before .before .before .before .args .part .now) 2 4294967295 _ (c .before .before .before .by .ensures) refl)
+
+array-read-t35 : tie.Need-array-read-t35
+array-read-t35 c = search needs
+
+cast-t36 : tie.Need-cast-t36
+unfolding limit most ruleOf when
+cast-t36 c = omega (arith, fits kind fields (c .before .before .before .before .before .args .part .now) 3 4294967295 _ (c .before .before .before .by .ensures) refl)
+
 array-read-t39 : tie.Need-array-read-t39
 array-read-t39 c = search needs
 
 cast-t40 : tie.Need-cast-t40
 unfolding limit most ruleOf when
-cast-t40 c = omega (arith, fits kind fields (c .before .before .before .before .before .args .part .now) 0 1 _ (c .before .before .before .by .ensures) refl)
-
-array-read-t43 : tie.Need-array-read-t43
-array-read-t43 c = search needs
-
-cast-t44 : tie.Need-cast-t44
-unfolding limit most ruleOf when
-cast-t44 c = omega (arith, fits kind fields (c .before .before .before .before .before .args .part .now) 1 16777215 _ (c .before .before .before .by .ensures) refl)
-
-array-read-t47 : tie.Need-array-read-t47
-array-read-t47 c = search needs
-
-cast-t48 : tie.Need-cast-t48
-unfolding limit most ruleOf when
-cast-t48 c = omega (arith, fits kind fields (c .before .before .before .before .before .args .part .now) 2 4294967295 _ (c .before .before .before .by .ensures) refl)
-
-array-read-t51 : tie.Need-array-read-t51
-array-read-t51 c = search needs
-
-cast-t52 : tie.Need-cast-t52
-unfolding limit most ruleOf when
-cast-t52 c = omega (arith, fits kind fields (c .before .before .before .before .before .args .part .now) 3 4294967295 _ (c .before .before .before .by .ensures) refl)
-
-array-read-t55 : tie.Need-array-read-t55
-array-read-t55 c = search needs
-
-cast-t56 : tie.Need-cast-t56
-unfolding limit most ruleOf when
-cast-t56 c = omega (arith, fits kind fields (c .before .before .before .before .before .args .part .now) 4 4294967295 _ (c .before .before .before .by .ensures) refl)
+cast-t40 c = omega (arith, fits kind fields (c .before .before .before .before .before .args .part .now) 4 4294967295 _ (c .before .before .before .by .ensures) refl)
 
 cells-of-requires : tie.Need-cells-of-requires
 cells-of-requires c κs = search needs
@@ -79,23 +79,4 @@ returns-3 c = table-cut Is Refused from cells 4 (c .before .before .before .befo
 pub read-spec : {M : Type 1} → statement M
 read-spec =
     tie.close
-    (tie.spec
-    by-requires
-    returns
-    array-read-t39
-    cast-t40
-    array-read-t43
-    cast-t44
-    array-read-t47
-    cast-t48
-    array-read-t51
-    cast-t52
-    array-read-t55
-    cast-t56
-    cells-of-requires
-    slice-aggregate-first-cut
-    first-cut-requires
-    enum-told
-    enum-known-cut
-    returns-2
-    returns-3)
+    (tie.spec by-requires returns array-read-t23 cast-t24 array-read-t27 cast-t28 array-read-t31 cast-t32 array-read-t35 cast-t36 array-read-t39 cast-t40 cells-of-requires slice-aggregate-first-cut first-cut-requires enum-told enum-known-cut returns-2 returns-3)

@@ -18,35 +18,20 @@ mul-size c = omega (arith, c .cells-of .ensures, cells-most (c .before .before .
 returns : tie.Need-returns
 returns c = is-ne _ _ _ (length (c .before .before .before .before .args .entries .now)) (cellsOf (c .before .before .before .before .args .trun .flags) (c .before .before .before .before .args .trun .«sample_count») * 4) (λ e. c .if1 .taken (e ∙ sym (ap (λ k. k * 4) (c .before .cells-of .ensures)))) refl
 
-cast-v : tie.Need-cast-v
-cast-v c = search needs
+cast-t9 : tie.Need-cast-t9
+cast-t9 c = search needs
 
-array-write-v : tie.Need-array-write-v
-array-write-v c = search needs
+cast-t10 : tie.Need-cast-t10
+cast-t10 c = search needs
 
-cast-v-2 : tie.Need-cast-v-2
-cast-v-2 c = search needs
+cast-t11 : tie.Need-cast-t11
+cast-t11 c = search needs
 
-array-write-v-2 : tie.Need-array-write-v-2
-array-write-v-2 c = search needs
+cast-t12 : tie.Need-cast-t12
+cast-t12 c = search needs
 
-cast-v-3 : tie.Need-cast-v-3
-cast-v-3 c = search needs
-
-array-write-v-3 : tie.Need-array-write-v-3
-array-write-v-3 c = search needs
-
-cast-v-4 : tie.Need-cast-v-4
-cast-v-4 c = search needs
-
-array-write-v-4 : tie.Need-array-write-v-4
-array-write-v-4 c = search needs
-
-cast-v-5 : tie.Need-cast-v-5
-cast-v-5 c = search needs
-
-array-write-v-5 : tie.Need-array-write-v-5
-array-write-v-5 c = search needs
+cast-t13 : tie.Need-cast-t13
+cast-t13 c = search needs
 
 by-requires : tie.Need-by-requires
 by-requires c κs = search needs
@@ -60,20 +45,4 @@ returns-2 c = is-eq _ _ _ (length (c .before .before .before .before .before .be
 pub write-spec : {M : Type 1} → statement M
 write-spec =
     tie.close
-    (tie.spec
-    cells-of-requires
-    mul-size
-    returns
-    cast-v
-    array-write-v
-    cast-v-2
-    array-write-v-2
-    cast-v-3
-    array-write-v-3
-    cast-v-4
-    array-write-v-4
-    cast-v-5
-    array-write-v-5
-    by-requires
-    same-length
-    returns-2)
+    (tie.spec cells-of-requires mul-size returns cast-t9 cast-t10 cast-t11 cast-t12 cast-t13 by-requires same-length returns-2)
