@@ -8,7 +8,7 @@ ghost use lib.Seq.{sets};
 ghost use Rattle.descriptors.specs.Descriptors.{descriptorBytes};
 ghost use Rattle.esfields.specs.EsFields.{fieldBytes};
 ghost use Rattle.put.specs.Put.{wrote};
-ghost use Rattle.esds.specs.Esds.{tailOf, afterConfig, contentOf, streamOf, esdsOf, urlOf, infoOf, slOf, decoderBytes, slBytes, contentBytes, decoderSound, slSound, sound, decoderSize, slSize, esdsIn, freshOf};
+ghost use Rattle.esds.specs.Esds.{tailOf, afterConfig, contentOf, streamOf, esdsOf, decoderBytes, slBytes, contentBytes, decoderSound, slSound, sound, decoderSize, slSize, esdsIn, freshOf};
 use boxes::full;
 use boxes::header;
 use decoderconfig::Config;
@@ -255,42 +255,6 @@ pub fn read(part: &[u8]) -> Found
     let place = got.place;
     let end = got.end;
     stream_at(&part[..end], place, v[1] as u32)
-}
-
-// The URL, as the part of the box where it lies; no bytes where there is none or the box is refused.
-pub fn url(part: &[u8]) -> &[u8]
-    ensures { λ r. ⌜ now r ≡ urlOf (now (part .entry)) ⌝ }
-{
-    let Found::Is(_, places) = read(part) else {
-        return &part[..0];
-    };
-    let from = places.url;
-    let to = places.url_end;
-    &part[from..to]
-}
-
-// The DecoderSpecificInfo's content, in the same way.
-pub fn info(part: &[u8]) -> &[u8]
-    ensures { λ r. ⌜ now r ≡ infoOf (now (part .entry)) ⌝ }
-{
-    let Found::Is(_, places) = read(part) else {
-        return &part[..0];
-    };
-    let from = places.info;
-    let to = places.info_end;
-    &part[from..to]
-}
-
-// The SLConfig's content, in the same way.
-pub fn sl(part: &[u8]) -> &[u8]
-    ensures { λ r. ⌜ now r ≡ slOf (now (part .entry)) ⌝ }
-{
-    let Found::Is(_, places) = read(part) else {
-        return &part[..0];
-    };
-    let from = places.sl;
-    let to = places.sl_end;
-    &part[from..to]
 }
 
 // WRITING

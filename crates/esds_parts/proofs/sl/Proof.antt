@@ -1,10 +1,10 @@
 use mathlib.Core.Path.{sym, ap, _∙_}
 use native.Mathlib.Omega.{arith}
 use Rattle.esds.specs.Esds.{spanOf}
 use Rattle.esds.proofs.Contents.{inside}
 use borrow.Author.Needs.{needs}
-use Rattle.esds.proofs.sl.Statement.{statement}
-use Rattle.esds.proofs.sl.Tie as tie
+use Rattle.esds_parts.proofs.sl.Statement.{statement}
+use Rattle.esds_parts.proofs.sl.Tie as tie
 
 read-requires : tie.Need-read-requires
 read-requires c κs = search needs
