@@ -8,7 +8,7 @@ ghost use lib.Seq.{sets};
 ghost use Rattle.descriptors.specs.Descriptors.{descriptorBytes};
 ghost use Rattle.esfields.specs.EsFields.{fieldBytes};
 ghost use Rattle.put.specs.Put.{wrote};
-ghost use Rattle.esds.specs.Esds.{tailOf, afterConfig, contentOf, streamOf, esdsOf, decoderBytes, slBytes, contentBytes, decoderSound, slSound, sound, decoderSize, slSize, esdsIn, freshOf};
+ghost use Rattle.esds.specs.Esds.{tailOf, afterConfig, contentOf, streamOf, esdsOf, decoderBytes, slBytes, contentBytes, decoderSound, slSound, sound, decoderSize, slSize, esdsIn};
 use boxes::full;
 use boxes::header;
 use decoderconfig::Config;
@@ -420,31 +420,4 @@ pub fn write(esds: Esds, url: &[u8], info: &[u8], sl: &[u8], out: &mut [u8]) -> 
     full::write(out, 8, 0, esds.flags);
     put_stream(out, length, first, second, esds, url, info, sl);
     Put::Done(total)
-}
-
-// NEW
-
-// The record of a new AAC stream: MPEG-4 audio (0x40) that goes downwards, with an AudioSpecificConfig (`asc::write`) as its
-// info, and with an SLConfig. In a file its number is 0, and the SLConfig's content 02 (14496-14, 3.1.2).
-pub fn fresh(bitrate: u32) -> Esds
-    ensures { λ r. ⌜ r ≡ freshOf bitrate ⌝ }
-{
-    Esds {
-        flags: 0,
-        stream: Stream {
-            id: 0,
-            flags: 0,
-            depends_on: 0,
-            ocr_id: 0,
-        },
-        decoder: Decoder::Is(Config {
-            object_type_indication: 0x40,
-            stream: 0x15,
-            buffer_size: 0,
-            max_bitrate: bitrate,
-            avg_bitrate: bitrate,
-            has_info: true,
-        }),
-        has_sl: true,
-    }
 }

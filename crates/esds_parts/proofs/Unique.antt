@@ -1,5 +1,4 @@
--- Each promise fixes one answer: two that meet it are equal. Stated on the promise itself.
--- Assumes nothing.
+-- Each promise fixes one answer: two that meet it are equal. Stated on the promise itself. Assumes nothing.
 use mathlib.Core.Path.{_≡_, sym, _∙_}
 use denote.Ref.{now}
 use Rattle.esds_parts.proofs.url.Reads as url
