@@ -26,14 +26,12 @@ use Rattle.rounds.proofs.Boxes.{fieldsIn, reads-back, own-read, own-bytes}
 use Rattle.sets.specs.Sets.{endOf, nthOf, listOf}
 use Rattle.sets.specs.declared.Found.the-variants as sets
 use Rattle.sets.proofs.SetsLaws.{Short, lies, taken, end-after, made-nth, past-the-last}
-use Rattle.avcc.specs.Avcc.{kind, fields, headOf, places, lastOf, secondOf, firstOf, contentOf, behindOf, openedOf, foundOf, avccOf, span, spanOf, spsListOf, ppsListOf, extensionOf, spsOf, ppsOf, sound, laid, avccIn, ones}
+use Rattle.avcc.specs.Avcc.{kind, fields, headOf, places, lastOf, secondOf, firstOf, contentOf, behindOf, avccOf, span, spanOf, spsListOf, ppsListOf, extensionOf, spsOf, ppsOf, sound, laid, avccIn, ones}
 use Rattle.avcc.specs.declared.Avcc.{Avcc}
 use Rattle.avcc.specs.declared.Places.{Places}
 use Rattle.avcc.specs.declared.Head.the-variants as head
-use Rattle.avcc.specs.declared.Opened.{Opened}
-use Rattle.avcc.specs.declared.Opened.the-variants as opened
 use Rattle.avcc.specs.declared.Found.the-variants.{Is, Refused}
-use Rattle.avcc.proofs.Cases.{Six, Content, content-way, opened-way}
+use Rattle.avcc.proofs.Cases.{Six, Content, content-way, avcc-way}
 use Rattle.avcc.proofs.Puts.{Sound, sounds, and-last, and-true, length-laid}
 
 -- WHAT WAS LAID BEHIND THE HEADER, read where it stands
@@ -52,7 +50,7 @@ low-bits q w n h = mul-add-mod-self-right q w n ∙ mod-eq-of-lt h
 
 pub record Back (m : Avcc) (s p x b : List ℕ) (at : ℕ) : Type 0 where
   pub q : Places
-  pub read : contentOf b at ≡ opened.Is m q
+  pub read : contentOf b at ≡ Is m q
   pub first : span b (q .sps) (q .«sps_end») ≡ s
   pub second : span b (q .pps) (q .«pps_end») ≡ p
   pub rest : span b (q .«pps_end») (q .end) ≡ x
@@ -91,7 +89,7 @@ module _ (m : Avcc) (s p x b : List ℕ) (at : ℕ) (h : drop at b ≡ laid m s 
         read =
             ap (firstOf b (at + 6)) six-back
             ∙ ap (secondOf b (at + 6) (m .profile) (m .compatibility) (m .level) (m .«length_size») (m .sps)) es
-            ∙ sym (whole 1 b e opened.Refused _ _ k (omega (arith, a, l)) (sym ek) (sym (ap (lastOf b (at + 6) m e) ep)));
+            ∙ sym (whole 1 b e Refused _ _ k (omega (arith, a, l)) (sym ek) (sym (ap (lastOf b (at + 6) m e) ep)));
         first = span-is b s (k ∷ (p ++ x)) (at + 6) e d6 refl;
         second = span-is b p x (e + 1) f dp refl;
         rest = ap (λ t. take (length b - f) t) dx ∙ ap (λ n. take n x) (let z : length b - f ≡ length x = omega (arith, a, l) in z) ∙ take-length x;
@@ -101,20 +99,22 @@ module _ (m : Avcc) (s p x b : List ℕ) (at : ℕ) (h : drop at b ≡ laid m s 
 
 -- the record, the two lists with each of their sets, and the extension
 pub record Same (m : Avcc) (s p x b : List ℕ) : Type 0 where
-  pub read : avccOf b ≡ Is m
+  pub q : Places
+  pub read : avccOf b ≡ Is m q
   pub first : spsListOf b ≡ s
   pub second : ppsListOf b ≡ p
   pub rest : extensionOf b ≡ x
   pub first-set : (i : ℕ) → spsOf i b ≡ nthOf i s 0
   pub second-set : (i : ℕ) → ppsOf i b ≡ nthOf i p 0
 
-same : (m : Avcc) (s p x b : List ℕ) (q : Places) → openedOf b ≡ opened.Is m q → span b (q .sps) (q .«sps_end») ≡ s → span b (q .pps) (q .«pps_end») ≡ p →
+same : (m : Avcc) (s p x b : List ℕ) (q : Places) → avccOf b ≡ Is m q → span b (q .sps) (q .«sps_end») ≡ s → span b (q .pps) (q .«pps_end») ≡ p →
     span b (q .«pps_end») (q .end) ≡ x → Same m s p x b
 same m s p x b q h hs hp hx =
     let es : spsListOf b ≡ s = ap (spanOf (λ p. p .sps) (λ p. p .«sps_end») b) h ∙ hs in
     let ep : ppsListOf b ≡ p = ap (spanOf (λ p. p .pps) (λ p. p .«pps_end») b) h ∙ hp in
     record {
-      read = ap foundOf h;
+      q = q;
+      read = h;
       first = es;
       second = ep;
       rest = ap (spanOf (λ p. p .«pps_end») (λ p. p .end) b) h ∙ hx;
@@ -123,7 +123,7 @@ same m s p x b q h hs hp hx =
     }
 
 -- a box that is read to its end
-to-content : (b : List ℕ) (at : ℕ) (vs : List ℕ) → readOf kind fields b ≡ fieldsIn (length b) at vs → openedOf b ≡ contentOf b at
+to-content : (b : List ℕ) (at : ℕ) (vs : List ℕ) → readOf kind fields b ≡ fieldsIn (length b) at vs → avccOf b ≡ contentOf b at
 unfolding when
 to-content b at vs r = ap (behindOf b) r ∙ ap (λ l. contentOf l at) (take-length b)
 
@@ -149,10 +149,6 @@ avcc-sets-back m xs ys x buf n out hx hy h =
 
 -- NO SET PAST THE LAST, in a box that is read
 
-found-way : (m : Avcc) (o : Opened) → foundOf o ≡ Is m → (q : Places) × (o ≡ opened.Is m q)
-found-way m (opened.Is k q) h = let e : k ≡ m = cc in (q, ap (λ k. opened.Is k q) e)
-found-way m (opened.Refused r) h = let z : _≡_ {A = ℕ} 0 1 = cc in absurd (omega arith)
-
 -- what lies before the box's end lies in the part that is lent
 up-to : (b : List ℕ) (n from to : ℕ) → from ≤ to → to ≤ length (take n b) → span b from to ≡ span (take n b) from to
 up-to b n from to h l =
@@ -160,26 +156,24 @@ up-to b n from to h l =
     ∙ ap (take (to - from)) (drop-append-le from (take n b) (drop n b) (omega (arith, h, l)))
     ∙ take-append-le (to - from) (drop from (take n b)) (drop n b) (omega (arith, length-drop from (take n b), h, l))
 
-pub no-more-sps : (b : List ℕ) (m : Avcc) → avccOf b ≡ Is m → (i : ℕ) → m .sps ≤ i → spsOf i b ≡ []
-no-more-sps b m h i l =
-    let w = found-way m (openedOf b) h in
+pub no-more-sps : (b : List ℕ) (m : Avcc) (q : Places) → avccOf b ≡ Is m q → (i : ℕ) → m .sps ≤ i → spsOf i b ≡ []
+no-more-sps b m q h i l =
     let g = readOf kind fields b in
-    let y = opened-way b m (w .0) (w .1) in
+    let y = avcc-way b m q h in
     let at = g .place + 6 in
     let k = end-after (m .sps) (take (g .end) b) at (y .e) (y .first) (y .bytes .within) in
     let list : spsListOf b ≡ span (take (g .end) b) at (y .e) =
-    ap (spanOf (λ p. p .sps) (λ p. p .«sps_end») b) (w .1) ∙ ap (λ q. span b (q .sps) (q .«sps_end»)) (y .lies) ∙ up-to b (g .end) at (y .e) (k .0) (k .1) in
+    ap (spanOf (λ p. p .sps) (λ p. p .«sps_end») b) h ∙ ap (λ q. span b (q .sps) (q .«sps_end»)) (y .lies) ∙ up-to b (g .end) at (y .e) (k .0) (k .1) in
     ap (λ l. nthOf i l 0) list ∙ past-the-last (m .sps) i (span (take (g .end) b) at (y .e)) (taken (m .sps) (take (g .end) b) at (y .e) (y .first) (y .bytes .within)) l
 
-pub no-more-pps : (b : List ℕ) (m : Avcc) → avccOf b ≡ Is m → (i : ℕ) → m .pps ≤ i → ppsOf i b ≡ []
-no-more-pps b m h i l =
-    let w = found-way m (openedOf b) h in
+pub no-more-pps : (b : List ℕ) (m : Avcc) (q : Places) → avccOf b ≡ Is m q → (i : ℕ) → m .pps ≤ i → ppsOf i b ≡ []
+no-more-pps b m q h i l =
     let g = readOf kind fields b in
-    let y = opened-way b m (w .0) (w .1) in
+    let y = avcc-way b m q h in
     let at = y .e + 1 in
     let k = end-after (m .pps) (take (g .end) b) at (y .f) (y .second) (y .room) in
     let list : ppsListOf b ≡ span (take (g .end) b) at (y .f) =
-    ap (spanOf (λ p. p .pps) (λ p. p .«pps_end») b) (w .1) ∙ ap (λ q. span b (q .pps) (q .«pps_end»)) (y .lies) ∙ up-to b (g .end) at (y .f) (k .0) (k .1) in
+    ap (spanOf (λ p. p .pps) (λ p. p .«pps_end») b) h ∙ ap (λ q. span b (q .pps) (q .«pps_end»)) (y .lies) ∙ up-to b (g .end) at (y .f) (k .0) (k .1) in
     ap (λ l. nthOf i l 0) list ∙ past-the-last (m .pps) i (span (take (g .end) b) at (y .f)) (taken (m .pps) (take (g .end) b) at (y .f) (y .second) (y .room)) l
 
 -- A CANONICAL BOX, READ AND WRITTEN, GIVES ITS OWN BYTES
@@ -235,7 +229,7 @@ high-ones b z n o hz hn =
     )
 
 -- a box that is read: what is laid again is what lay there, and it is sound
-module _ (b : List ℕ) (m : Avcc) (q : Places) (h : openedOf b ≡ opened.Is m q) (y : Content b 8 m q) where
+module _ (b : List ℕ) (m : Avcc) (q : Places) (h : avccOf b ≡ Is m q) (y : Content b 8 m q) where
   own-laid : ones b ≡ true → laid m (spsListOf b) (ppsListOf b) (extensionOf b) ≡ drop 8 b
   own-laid o =
       let e = y .e in
@@ -260,16 +254,15 @@ module _ (b : List ℕ) (m : Avcc) (q : Places) (h : openedOf b ≡ opened.Is m 
       (taken (m .sps) b 14 e (y .first) (w .within)))
       ∙ taken (m .pps) b (e + 1) f (y .second) (y .room)
 
-pub avcc-own : (b : List ℕ) (k : ℕ) → Canonical kind fields k b → ones b ≡ true → (m : Avcc) → avccOf b ≡ Is m → (buf : List ℕ) → length b ≤ length buf →
+pub avcc-own : (b : List ℕ) (k : ℕ) → Canonical kind fields k b → ones b ≡ true → (m : Avcc) (q : Places) → avccOf b ≡ Is m q → (buf : List ℕ) → length b ≤ length buf →
     avccIn m (spsListOf b) (ppsListOf b) (extensionOf b) buf ≡ wrote (put.Done (length b)) (b ++ drop (length b) buf)
 unfolding slots firsts ruleOf when
-avcc-own b k c o m h buf hl =
+avcc-own b k c o m q h buf hl =
     let d : got [] 8 ≡ got (c .values) (c .end) = sym (no-fields b (c .long) 24) ∙ c .fields in
     let e8 : c .end ≡ 8 = cc in
     let r : readOf kind fields b ≡ fieldsIn (length b) 8 (c .values) = own-read kind fields k b c ∙ ap (λ e. fieldsIn (length b) e (c .values)) e8 in
-    let w = found-way m (openedOf b) h in
-    let y = content-way b 8 m (w .0) (sym (to-content b 8 (c .values) r) ∙ w .1) in
+    let y = content-way b 8 m q (sym (to-content b 8 (c .values) r) ∙ h) in
     let tail : laid m (spsListOf b) (ppsListOf b) (extensionOf b) ≡ drop (readOf kind fields b .place) b =
-    _∙_ {c = drop (readOf kind fields b .place) b} (own-laid b m (w .0) (w .1) y o) (ap (λ r. drop (r .place) b) (sym r)) in
-    sym (by-true _ _ _ (sound m (spsListOf b) (ppsListOf b)) (own-sound b m (w .0) (w .1) y)
+    _∙_ {c = drop (readOf kind fields b .place) b} (own-laid b m q h y o) (ap (λ r. drop (r .place) b) (sym r)) in
+    sym (by-true _ _ _ (sound m (spsListOf b) (ppsListOf b)) (own-sound b m q h y)
     (sym (ap (λ l. writeOf kind fields (slotted []) l buf) tail ∙ own-bytes kind fields k b c (slotted []) buf (omega arith) refl hl)))

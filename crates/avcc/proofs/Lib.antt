@@ -1,5 +1,5 @@
 pub mod AvccLaws
-mod Cases
+pub mod Cases
 mod Puts
 mod Unique
 mod Vectors

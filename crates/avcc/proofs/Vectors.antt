@@ -12,7 +12,7 @@ use Rattle.layout.specs.Rule.{ruleOf}
 use Rattle.layout.specs.Read.{one, decode}
 use Rattle.layout.specs.Write.{lay, encode}
 use Rattle.sets.specs.Sets.{endOf}
-use Rattle.avcc.specs.Avcc.{avcc, avccOf, spsListOf, ppsListOf, extensionOf, spsOf, ppsOf, avccIn, ones, freshOf}
+use Rattle.avcc.specs.Avcc.{avcc, places, avccOf, spsListOf, ppsListOf, extensionOf, spsOf, ppsOf, avccIn, ones}
 use Rattle.avcc.specs.declared.Found.the-variants.{Is, Refused}
 
 abbrev box : List ℕ → List ℕ
@@ -31,7 +31,7 @@ picture = 0x68 ∷ 0xEB ∷ 0xE3 ∷ 0xCB ∷ 0x22 ∷ 0xC0 ∷ []
 abbrev tested : List ℕ
 tested = box (1 ∷ 100 ∷ 0 ∷ 13 ∷ 0xFF ∷ 0xE1 ∷ 0 ∷ 24 ∷ (sequence ++ (1 ∷ 0 ∷ 6 ∷ picture)))
 
-tested-read : avccOf tested ≡ Is (avcc 100 0 13 3 1 1)
+tested-read : avccOf tested ≡ Is (avcc 100 0 13 3 1 1) (places 14 40 49 49)
 unfolding be bytes field when ruleOf one decode endOf
 tested-read = refl
 
@@ -60,7 +60,7 @@ tested-ones = refl
 abbrev two : List ℕ
 two = box (1 ∷ 77 ∷ 64 ∷ 30 ∷ 0xFF ∷ 0xE2 ∷ 0 ∷ 2 ∷ 0x67 ∷ 1 ∷ 0 ∷ 1 ∷ 0x67 ∷ 1 ∷ 0 ∷ 1 ∷ 0x68 ∷ 0xFD ∷ 0xF8 ∷ 0xF8 ∷ 0 ∷ []) ++ bytes 3 7
 
-two-read : avccOf two ≡ Is (avcc 77 64 30 3 2 1)
+two-read : avccOf two ≡ Is (avcc 77 64 30 3 2 1) (places 14 21 25 29)
 unfolding be bytes field when ruleOf one decode endOf
 two-read = refl
 
@@ -99,7 +99,7 @@ two-rest = refl
 abbrev bare : List ℕ
 bare = box (1 ∷ 66 ∷ 0 ∷ 10 ∷ 1 ∷ 0 ∷ 0 ∷ [])
 
-bare-read : avccOf bare ≡ Is (avcc 66 0 10 1 0 0)
+bare-read : avccOf bare ≡ Is (avcc 66 0 10 1 0 0) (places 14 14 15 15)
 unfolding be bytes field when ruleOf one decode endOf
 bare-read = refl
 
@@ -112,7 +112,7 @@ unfolding be bytes
 bare-ones = refl
 
 -- the number of PPS has all of its eight bits: 33 PPS are no 1
-pps-33 : avccOf (box (1 ∷ 66 ∷ 0 ∷ 10 ∷ 0xFF ∷ 0xE0 ∷ 33 ∷ replicate 66 0)) ≡ Is (avcc 66 0 10 3 0 33)
+pps-33 : avccOf (box (1 ∷ 66 ∷ 0 ∷ 10 ∷ 0xFF ∷ 0xE0 ∷ 33 ∷ replicate 66 0)) ≡ Is (avcc 66 0 10 3 0 33) (places 14 14 81 81)
 unfolding be bytes field when ruleOf one decode endOf
 pps-33 = refl
 
@@ -206,17 +206,3 @@ one-more = refl
 set-cut : avccIn (avcc 66 0 10 3 0 1) [] (0 ∷ 2 ∷ 0x68 ∷ []) [] [] ≡ wrote (put.Refused (refusal 13 0)) []
 unfolding be bytes field when ruleOf lay encode endOf
 set-cut = refl
-
--- NEW: the record of the box above from its sequence parameter set, and both sides of the limit
-
-fresh-tested : freshOf sequence ≡ Is (avcc 100 0 13 3 1 1)
-unfolding when
-fresh-tested = refl
-
-fresh-shortest : freshOf (0x67 ∷ 66 ∷ 0xc0 ∷ 30 ∷ []) ≡ Is (avcc 66 0xc0 30 3 1 1)
-unfolding when
-fresh-shortest = refl
-
-fresh-short : freshOf (0x67 ∷ 66 ∷ 0xc0 ∷ []) ≡ Refused (refusal 13 0)
-unfolding when
-fresh-short = refl

@@ -6,7 +6,7 @@
 use Prim.Native.Nat.{ℕ, _+_, _-_, _/_, _%_}
 use mathlib.Core.List.{List, [], _∷_, _++_}
 use mathlib.Core.Bool.{Bool, _&&_}
-use lib.ListN.{length, take, drop, getD}
+use lib.ListN.{length, take, drop}
 use lib.Dec.{eqb, ltb}
 use Rattle.numbers.specs.Number.{be}
 use Rattle.numbers.specs.Field.{refusal, field, when}
@@ -23,8 +23,6 @@ use Rattle.avcc.specs.declared.Avcc.{Avcc}
 use Rattle.avcc.specs.declared.Places.{Places}
 use Rattle.avcc.specs.declared.Head.{Head}
 use Rattle.avcc.specs.declared.Head.the-variants as head
-use Rattle.avcc.specs.declared.Opened.{Opened}
-use Rattle.avcc.specs.declared.Opened.the-variants as opened
 use Rattle.avcc.specs.declared.Found.{Found}
 use Rattle.avcc.specs.declared.Found.the-variants.{Is, Refused}
 
@@ -58,53 +56,46 @@ abbrev pub places : ℕ → ℕ → ℕ → ℕ → Places
 places at e f end = record { sps = at; «sps_end» = e; pps = e + 1; «pps_end» = f; end = end }
 
 -- the PPS were read
-abbrev pub lastOf : List ℕ → ℕ → Avcc → ℕ → set.Found → Opened
-lastOf b at m e (sets.End f) = opened.Is m (places at e f (length b))
-lastOf b at m e (sets.Refused q) = opened.Refused q
+abbrev pub lastOf : List ℕ → ℕ → Avcc → ℕ → set.Found → Found
+lastOf b at m e (sets.End f) = Is m (places at e f (length b))
+lastOf b at m e (sets.Refused q) = Refused q
 
 -- the SPS were read: the number of PPS, and so many
-abbrev pub secondOf : List ℕ → ℕ → ℕ → ℕ → ℕ → ℕ → ℕ → set.Found → Opened
-secondOf b at p c l z n (sets.End e) = field opened.Refused 1 b e (λ k. lastOf b at (avcc p c l z n k) e (endOf k b (e + 1)))
-secondOf b at p c l z n (sets.Refused q) = opened.Refused q
+abbrev pub secondOf : List ℕ → ℕ → ℕ → ℕ → ℕ → ℕ → ℕ → set.Found → Found
+secondOf b at p c l z n (sets.End e) = field Refused 1 b e (λ k. lastOf b at (avcc p c l z n k) e (endOf k b (e + 1)))
+secondOf b at p c l z n (sets.Refused q) = Refused q
 
 -- the six bytes were read: so many SPS
-abbrev pub firstOf : List ℕ → ℕ → Head → Opened
+abbrev pub firstOf : List ℕ → ℕ → Head → Found
 firstOf b at (head.Is p c l z n) = secondOf b at p c l z n (endOf n b at)
-firstOf b at (head.Refused q) = opened.Refused q
+firstOf b at (head.Refused q) = Refused q
 
 -- what lies behind the header, up to the box's end
-abbrev pub contentOf : List ℕ → ℕ → Opened
+abbrev pub contentOf : List ℕ → ℕ → Found
 contentOf b at = firstOf b (at + 6) (headOf b at)
 
-abbrev pub behindOf : List ℕ → Fields → Opened
-behindOf b f = when (eqb (f .number) 0) (contentOf (take (f .end) b) (f .place)) (opened.Refused (refusal (f .number) (f .place)))
-
-abbrev pub openedOf : List ℕ → Opened
-openedOf b = behindOf b (readOf kind fields b)
-
-abbrev pub foundOf : Opened → Found
-foundOf (opened.Is m p) = Is m
-foundOf (opened.Refused q) = Refused q
+abbrev pub behindOf : List ℕ → Fields → Found
+behindOf b f = when (eqb (f .number) 0) (contentOf (take (f .end) b) (f .place)) (Refused (refusal (f .number) (f .place)))
 
 abbrev pub avccOf : List ℕ → Found
-avccOf b = foundOf (openedOf b)
+avccOf b = behindOf b (readOf kind fields b)
 
 -- the bytes from a place up to another, and those of a box that is read; none of one that is refused
 abbrev pub span : List ℕ → ℕ → ℕ → List ℕ
 span b from to = take (to - from) (drop from b)
 
-abbrev pub spanOf : (Places → ℕ) → (Places → ℕ) → List ℕ → Opened → List ℕ
-spanOf from to b (opened.Is m p) = span b (from p) (to p)
-spanOf from to b (opened.Refused q) = []
+abbrev pub spanOf : (Places → ℕ) → (Places → ℕ) → List ℕ → Found → List ℕ
+spanOf from to b (Is m p) = span b (from p) (to p)
+spanOf from to b (Refused q) = []
 
 abbrev pub spsListOf : List ℕ → List ℕ
-spsListOf b = spanOf (λ p. p .sps) (λ p. p .«sps_end») b (openedOf b)
+spsListOf b = spanOf (λ p. p .sps) (λ p. p .«sps_end») b (avccOf b)
 
 abbrev pub ppsListOf : List ℕ → List ℕ
-ppsListOf b = spanOf (λ p. p .pps) (λ p. p .«pps_end») b (openedOf b)
+ppsListOf b = spanOf (λ p. p .pps) (λ p. p .«pps_end») b (avccOf b)
 
 abbrev pub extensionOf : List ℕ → List ℕ
-extensionOf b = spanOf (λ p. p .«pps_end») (λ p. p .end) b (openedOf b)
+extensionOf b = spanOf (λ p. p .«pps_end») (λ p. p .end) b (avccOf b)
 
 -- the i-th set of each list, counted from 0; a list holds no more sets than its number says
 abbrev pub spsOf : ℕ → List ℕ → List ℕ
@@ -130,10 +121,3 @@ avccIn m s p x out = when (sound m s p) (writeOf kind fields (slotted []) (laid 
 -- the reserved bits of a box with a header of 8 bytes are ones (document 01, Canonical)
 abbrev pub ones : List ℕ → Bool
 ones b = eqb (be 1 b 12 / 4) 63 && eqb (be 1 b 13 / 32) 7
-
--- NEW
-
--- a new box of one set of each kind, with lengths of four bytes: profile, compatibility and level are the bytes behind the
--- first of the sequence parameter set (ISO/IEC 14496-10, 7.3.2.1.1); 13 where it ends before
-abbrev pub freshOf : List ℕ → Found
-freshOf s = when (ltb (length s) 4) (Refused (refusal 13 0)) (Is (avcc (getD s 1 0) (getD s 2 0) (getD s 3 0) 3 1 1))

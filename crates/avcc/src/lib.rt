@@ -5,7 +5,7 @@ ghost use Prim.Native.Nat.{_+_, _≤_, min, _^_};
 ghost use lib.ListN.{length};
 ghost use lib.Seq.{sets};
 ghost use Rattle.put.specs.Put.{wrote};
-ghost use Rattle.avcc.specs.Avcc.{headOf, contentOf, openedOf, avccOf, spsListOf, ppsListOf, extensionOf, spsOf, ppsOf, sound, laid, avccIn, freshOf};
+ghost use Rattle.avcc.specs.Avcc.{headOf, contentOf, avccOf, sound, laid, avccIn};
 use boxes::header;
 use layout::Field;
 use numbers::Refusal;
@@ -22,13 +22,8 @@ pub struct Avcc {
     pub pps: u8,
 }
 
-pub enum Found {
-    Is(Avcc),
-    Refused(Refusal),
-}
-
 // Where each list begins and ends, and where the box ends. The extension begins where the second list ends.
-pub(crate) struct Places {
+pub struct Places {
     pub sps: usize,
     pub sps_end: usize,
     pub pps: usize,
@@ -36,7 +31,7 @@ pub(crate) struct Places {
     pub end: usize,
 }
 
-pub(crate) enum Opened {
+pub enum Found {
     Is(Avcc, Places),
     Refused(Refusal),
 }
@@ -106,25 +101,25 @@ fn head_at(b: &[u8], at: usize) -> Head
 }
 
 // What lies behind the header, up to the box's end.
-fn content(b: &[u8], at: usize) -> Opened
+fn content(b: &[u8], at: usize) -> Found
     ensures { λ r. ⌜ r ≡ contentOf (now (b .entry)) at ⌝ }
 {
     match head_at(b, at) {
-        Head::Refused(q) => Opened::Refused(q),
+        Head::Refused(q) => Found::Refused(q),
         Head::Is(profile, compatibility, level, length_size, sps) => {
             let first = at + 6;
             match sets::end_of(b, first, sps as usize) {
-                sets::Found::Refused(q) => Opened::Refused(q),
+                sets::Found::Refused(q) => Found::Refused(q),
                 sets::Found::End(sps_end) => {
                     let U8::Is(pps) = numbers::u8_at(b, sps_end) else {
-                        return Opened::Refused(Refusal {
+                        return Found::Refused(Refusal {
                             number: 1,
                             detail: sps_end,
                         });
                     };
                     let second = sps_end + 1;
                     match sets::end_of(b, second, pps as usize) {
-                        sets::Found::Refused(q) => Opened::Refused(q),
+                        sets::Found::Refused(q) => Found::Refused(q),
                         sets::Found::End(pps_end) => {
                             let avcc = Avcc {
                                 profile: profile,
@@ -141,7 +136,7 @@ fn content(b: &[u8], at: usize) -> Opened
                                 pps_end: pps_end,
                                 end: b.len(),
                             };
-                            Opened::Is(avcc, places)
+                            Found::Is(avcc, places)
                         }
                     }
                 }
@@ -150,12 +145,12 @@ fn content(b: &[u8], at: usize) -> Opened
     }
 }
 
-fn open(part: &[u8]) -> Opened
-    ensures { λ r. ⌜ r ≡ openedOf (now (part .entry)) ⌝ }
+pub fn read(part: &[u8]) -> Found
+    ensures { λ r. ⌜ r ≡ avccOf (now (part .entry)) ⌝ }
 {
     let got = layout::read::by(part, KIND, ROW);
     if got.number != 0 {
-        return Opened::Refused(Refusal {
+        return Found::Refused(Refusal {
             number: got.number,
             detail: got.place,
         });
@@ -163,69 +158,6 @@ fn open(part: &[u8]) -> Opened
     let place = got.place;
     let end = got.end;
     content(&part[..end], place)
-}
-
-pub fn read(part: &[u8]) -> Found
-    ensures { λ r. ⌜ r ≡ avccOf (now (part .entry)) ⌝ }
-{
-    match open(part) {
-        Opened::Refused(q) => Found::Refused(q),
-        Opened::Is(avcc, _) => Found::Is(avcc),
-    }
-}
-
-// The sequence parameter sets with their lengths, as the part of the box where they lie; no bytes where the box is
-// refused.
-pub fn sps_list(part: &[u8]) -> &[u8]
-    ensures { λ r. ⌜ now r ≡ spsListOf (now (part .entry)) ⌝ }
-{
-    let Opened::Is(_, places) = open(part) else {
-        return &part[..0];
-    };
-    let from = places.sps;
-    let to = places.sps_end;
-    &part[from..to]
-}
-
-// The picture parameter sets, in the same way.
-pub fn pps_list(part: &[u8]) -> &[u8]
-    ensures { λ r. ⌜ now r ≡ ppsListOf (now (part .entry)) ⌝ }
-{
-    let Opened::Is(_, places) = open(part) else {
-        return &part[..0];
-    };
-    let from = places.pps;
-    let to = places.pps_end;
-    &part[from..to]
-}
-
-// The extension of the high profiles, in the same way. It is not looked into, and so nothing is skipped.
-pub fn extension(part: &[u8]) -> &[u8]
-    ensures { λ r. ⌜ now r ≡ extensionOf (now (part .entry)) ⌝ }
-{
-    let Opened::Is(_, places) = open(part) else {
-        return &part[..0];
-    };
-    let from = places.pps_end;
-    let to = places.end;
-    &part[from..to]
-}
-
-// The i-th sequence parameter set, counted from 0, as the part of the box where it lies; no bytes where the box is
-// refused or has no such set.
-pub fn sps(part: &[u8], i: u8) -> &[u8]
-    ensures { λ r. ⌜ now r ≡ spsOf i (now (part .entry)) ⌝ }
-{
-    let sequences = sps_list(part);
-    sets::nth(sequences, 0, i as usize)
-}
-
-// The i-th picture parameter set, in the same way.
-pub fn pps(part: &[u8], i: u8) -> &[u8]
-    ensures { λ r. ⌜ now r ≡ ppsOf i (now (part .entry)) ⌝ }
-{
-    let pictures = pps_list(part);
-    sets::nth(pictures, 0, i as usize)
 }
 
 // WRITING
@@ -302,27 +234,4 @@ pub fn write(avcc: Avcc, sps_list: &[u8], pps_list: &[u8], extension: &[u8], out
     header::write(out, 0, KIND, total);
     put_content(out, avcc, sps_list, pps_list, extension);
     Put::Done(total)
-}
-
-// NEW
-
-// The record of a new box, of one set of each kind, with lengths of four bytes in a sample. The profile, its compatibility
-// and the level stand in the sequence parameter set behind its first byte; 13 where it ends before.
-pub fn fresh(sps: &[u8]) -> Found
-    ensures { λ r. ⌜ r ≡ freshOf (now (sps .entry)) ⌝ }
-{
-    if sps.len() < 4 {
-        return Found::Refused(Refusal {
-            number: 13,
-            detail: 0,
-        });
-    }
-    Found::Is(Avcc {
-        profile: sps[1],
-        compatibility: sps[2],
-        level: sps[3],
-        length_size: 3,
-        sps: 1,
-        pps: 1,
-    })
 }

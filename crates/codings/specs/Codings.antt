@@ -48,7 +48,7 @@ visualFault (visual.Is m) = Fine
 visualFault (visual.Refused q) = Wrong q
 
 abbrev pub avccFault : avcc-found.Found → Judged
-avccFault (avcc.Is m) = Fine
+avccFault (avcc.Is m at) = Fine
 avccFault (avcc.Refused q) = Wrong q
 
 abbrev pub mp4aFault : mp4a-found.Found → Judged

@@ -25,7 +25,7 @@ fn avcc(part: &[u8]) -> Judged
     ensures { λ r. ⌜ r ≡ avccFault (avccOf (now (part .entry))) ⌝ }
 {
     match avcc::read(part) {
-        avcc::Found::Is(_) => Judged::Fine,
+        avcc::Found::Is(_, _) => Judged::Fine,
         avcc::Found::Refused(q) => Judged::Wrong(q),
     }
 }

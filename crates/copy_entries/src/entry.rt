@@ -111,10 +111,10 @@ fn vpcc(part: &[u8], out: &mut [u8]) {
                 ],
             );
             say::two(
-                vpcc::bit_depth(b.sampling) as u32,
-                vpcc::chroma(b.sampling) as u32,
+                vpformat::bit_depth(b.sampling) as u32,
+                vpformat::chroma(b.sampling) as u32,
             );
-            flag(vpcc::full_range(b.sampling));
+            flag(vpformat::full_range(b.sampling));
             say::numbers(
                 &[
                     b.colour_primaries as u64,
@@ -172,7 +172,7 @@ fn sequence_sets(part: &[u8], count: u8) {
     let mut i = 0u8;
     while i < count {
         say::open();
-        say::bytes(avcc::sps(part, i));
+        say::bytes(avcc_parts::sps(part, i));
         say::close();
         i += 1;
     }
@@ -182,7 +182,7 @@ fn picture_sets(part: &[u8], count: u8) {
     let mut i = 0u8;
     while i < count {
         say::open();
-        say::bytes(avcc::pps(part, i));
+        say::bytes(avcc_parts::pps(part, i));
         say::close();
         i += 1;
     }
@@ -191,16 +191,16 @@ fn picture_sets(part: &[u8], count: u8) {
 fn avcc(part: &[u8], out: &mut [u8]) {
     match avcc::read(part) {
         avcc::Found::Refused(q) => say::refused(q),
-        avcc::Found::Is(b) => {
+        avcc::Found::Is(b, _) => {
             bytes4(b.profile, b.compatibility, b.level, b.length_size);
             say::one(b.sps as u32);
             sequence_sets(part, b.sps);
             say::one(b.pps as u32);
             picture_sets(part, b.pps);
-            let extension = avcc::extension(part);
+            let extension = avcc_parts::extension(part);
             say::bytes(extension);
-            let sequences = avcc::sps_list(part);
-            let pictures = avcc::pps_list(part);
+            let sequences = avcc_parts::sps_list(part);
+            let pictures = avcc_parts::pps_list(part);
             let put = avcc::write(b, sequences, pictures, extension, out);
             say::written(put, part, out);
         }

@@ -6,7 +6,7 @@
 // bytes, or `unwritten` with the number and the detail.
 mod code;
 mod entry;
-mod fresh;
+mod made;
 mod question;
 mod say;
 mod stream;
@@ -39,7 +39,7 @@ fn tell_known(kind: u32, part: &[u8], out: &mut [u8]) -> bool {
     if code::tell(kind, part) {
         return true;
     }
-    if fresh::tell(kind, part, out) {
+    if made::tell(kind, part, out) {
         return true;
     }
     question::tell(kind, part, out)

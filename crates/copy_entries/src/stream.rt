@@ -42,17 +42,17 @@ pub(crate) fn tell(kind: u32, part: &[u8], out: &mut [u8]) -> bool {
         esds::Found::Refused(q) => say::refused(q),
         esds::Found::Is(b, places) => {
             say::one(b.flags);
-            fields(b.stream, esds::url(part));
+            fields(b.stream, esds_parts::url(part));
             let configured = b.decoder;
             match configured {
                 Decoder::Absent => say::text(b""),
-                Decoder::Is(config) => decoder(config, esds::info(part)),
+                Decoder::Is(config) => decoder(config, esds_parts::info(part)),
             }
-            let sl = esds::sl(part);
+            let sl = esds_parts::sl(part);
             if b.has_sl {
                 say::bytes(sl);
             }
-            let put = esds::write(b, esds::url(part), esds::info(part), sl, out);
+            let put = esds::write(b, esds_parts::url(part), esds_parts::info(part), sl, out);
             say::written(put, part, out);
         }
     }

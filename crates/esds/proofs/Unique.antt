@@ -3,26 +3,10 @@
 use mathlib.Core.Path.{_≡_, sym, _∙_}
 use denote.Ref.{now}
 use Rattle.esds.proofs.read.Reads as esds-read
-use Rattle.esds.proofs.url.Reads as esds-url
-use Rattle.esds.proofs.info.Reads as esds-info
-use Rattle.esds.proofs.sl.Reads as esds-sl
 use Rattle.esds.proofs.write.Reads as esds-write
-use Rattle.esds.proofs.fresh.Reads as esds-fresh
 
 esds-read-fixed : (κs : _) (a : _) (r q : _) (s t : _) → esds-read.Post κs a r s → esds-read.Post κs a q t → r ≡ q
 esds-read-fixed κs a r q s t p o = p ∙ sym o
 
-esds-url-fixed : (κs : _) (a : _) (r q : _) (s t : _) → esds-url.Post κs a r s → esds-url.Post κs a q t → now r ≡ now q
-esds-url-fixed κs a r q s t p o = p ∙ sym o
-
-esds-info-fixed : (κs : _) (a : _) (r q : _) (s t : _) → esds-info.Post κs a r s → esds-info.Post κs a q t → now r ≡ now q
-esds-info-fixed κs a r q s t p o = p ∙ sym o
-
-esds-sl-fixed : (κs : _) (a : _) (r q : _) (s t : _) → esds-sl.Post κs a r s → esds-sl.Post κs a q t → now r ≡ now q
-esds-sl-fixed κs a r q s t p o = p ∙ sym o
-
 esds-write-fixed : (κs : _) (a : _) (r q : _) (s t : _) → esds-write.Post κs a r s → esds-write.Post κs a q t → (r ≡ q) × (now (s .1 .1 .1 .1 .0) ≡ now (t .1 .1 .1 .1 .0))
 esds-write-fixed κs a r q s t p o = (cc, cc)
-
-esds-fresh-fixed : (κs : _) (a : _) (r q : _) (s t : _) → esds-fresh.Post κs a r s → esds-fresh.Post κs a q t → r ≡ q
-esds-fresh-fixed κs a r q s t p o = p ∙ sym o

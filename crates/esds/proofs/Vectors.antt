@@ -18,7 +18,7 @@ use Rattle.descriptor.specs.Descriptor.{lengthFrom, headBy, groups, high}
 use Rattle.descriptors.specs.Descriptors.{seekFrom}
 use Rattle.decoderconfig.specs.DecoderConfig.{config}
 use Rattle.esfields.specs.EsFields.{stream}
-use Rattle.esds.specs.Esds.{kind, fields, esds, esdsOf, urlOf, infoOf, slOf, esdsIn, freshOf}
+use Rattle.esds.specs.Esds.{kind, fields, esds, esdsOf, urlOf, infoOf, slOf, esdsIn}
 use Rattle.esds.specs.declared.Decoder.the-variants as decoder
 use Rattle.esds.specs.declared.Esds.{Esds}
 use Rattle.esds.specs.declared.Places.{Places}
@@ -196,18 +196,6 @@ no-sl = refl
 no-flags : esdsIn (esds 0x100_0000 (stream 1 0 0 0) decoder.Absent false) [] [] [] [] ≡ wrote (put.Refused (refusal 13 0)) []
 unfolding bytes when ruleOf lay encode groups high audio.bitField audio.bitsOf
 no-flags = refl
-
--- NEW
-
--- a stream of 128,000 bits a second, with the bytes that `asc` writes of AAC LC, 48,000 samples a second and two channels
-fresh-config : audio.configIn (record { «object_type» = 2; «frequency_index» = 3; frequency = 0; channels = 2 }) (replicate 2 9) ≡ wrote (put.Done 2) (0x11 ∷ 0x90 ∷ [])
-unfolding bytes when audio.bitField audio.bitsOf
-fresh-config = refl
-
-fresh-written : esdsIn (freshOf 128000) [] (0x11 ∷ 0x90 ∷ []) (2 ∷ []) (replicate 39 9)
-    ≡ wrote (put.Done 39) (box 0x65736473 0 0 (3 ∷ 25 ∷ 0 ∷ 0 ∷ 0 ∷ 4 ∷ 17 ∷ numbers ++ (5 ∷ 2 ∷ 0x11 ∷ 0x90 ∷ 6 ∷ 1 ∷ 2 ∷ [])))
-unfolding bytes when ruleOf lay encode groups high audio.bitField audio.bitsOf
-fresh-written = refl
 
 -- CANONICAL: what we write is; the Rust crate's box, with a byte behind its SLConfig, and longer lengths are not
 

@@ -2,7 +2,7 @@
 -- descriptors, of which the DecoderConfig (tag 4) and the SLConfig (tag 6, 7.3.2.3) are kept (A29). What stands behind the
 -- SLConfig is skipped, and so is what stands behind the stream's descriptor. Another tag than 3 is 8 at the tag. Of several
 -- DecoderConfigs, of which 14496-1 has exactly one, the first counts. Assumes nothing.
-use Prim.Native.Nat.{ℕ, _+_, _*_, _^_}
+use Prim.Native.Nat.{ℕ, _+_, _^_}
 use mathlib.Core.List.{List, [], _∷_, _++_}
 use mathlib.Core.Bool.{Bool, true, false, _&&_}
 use lib.ListN.{length, take, getD}
@@ -159,10 +159,3 @@ abbrev pub esdsIn : Esds → List ℕ → List ℕ → List ℕ → List ℕ →
 esdsIn m url info sl out =
     when (sound m url info sl) (writeOf kind fields (slotted (0 ∷ m .flags ∷ [])) (descriptorBytes 3 (contentBytes m url info sl)) out)
     (wrote (put.Refused (refusal 13 0)) out)
-
--- NEW
-
--- a new AAC stream, its number 0 as it is in a file (14496-14, 3.1.2): MPEG-4 audio (object type 0x40 of 14496-1, 7.2.6.6), a stream type of 5 in the high 6 bits of
--- its byte, not upwards, the reserved bit 1; with an info and an SLConfig
-abbrev pub freshOf : ℕ → Esds
-freshOf bitrate = esds 0 (es.stream 0 0 0 0) (decoder.Is (config.config 0x40 (5 * 4 + 1) 0 bitrate bitrate true)) true

@@ -8,7 +8,7 @@ ghost use lib.Seq.{sets};
 ghost use Rattle.descriptors.specs.Descriptors.{descriptorBytes};
 ghost use Rattle.esfields.specs.EsFields.{fieldBytes};
 ghost use Rattle.put.specs.Put.{wrote};
-ghost use Rattle.esds.specs.Esds.{tailOf, afterConfig, contentOf, streamOf, esdsOf, urlOf, infoOf, slOf, decoderBytes, slBytes, contentBytes, decoderSound, slSound, sound, decoderSize, slSize, esdsIn, freshOf};
+ghost use Rattle.esds.specs.Esds.{tailOf, afterConfig, contentOf, streamOf, esdsOf, decoderBytes, slBytes, contentBytes, decoderSound, slSound, sound, decoderSize, slSize, esdsIn};
 use boxes::full;
 use boxes::header;
 use decoderconfig::Config;
@@ -257,42 +257,6 @@ pub fn read(part: &[u8]) -> Found
     stream_at(&part[..end], place, v[1] as u32)
 }
 
-// The URL, as the part of the box where it lies; no bytes where there is none or the box is refused.
-pub fn url(part: &[u8]) -> &[u8]
-    ensures { λ r. ⌜ now r ≡ urlOf (now (part .entry)) ⌝ }
-{
-    let Found::Is(_, places) = read(part) else {
-        return &part[..0];
-    };
-    let from = places.url;
-    let to = places.url_end;
-    &part[from..to]
-}
-
-// The DecoderSpecificInfo's content, in the same way.
-pub fn info(part: &[u8]) -> &[u8]
-    ensures { λ r. ⌜ now r ≡ infoOf (now (part .entry)) ⌝ }
-{
-    let Found::Is(_, places) = read(part) else {
-        return &part[..0];
-    };
-    let from = places.info;
-    let to = places.info_end;
-    &part[from..to]
-}
-
-// The SLConfig's content, in the same way.
-pub fn sl(part: &[u8]) -> &[u8]
-    ensures { λ r. ⌜ now r ≡ slOf (now (part .entry)) ⌝ }
-{
-    let Found::Is(_, places) = read(part) else {
-        return &part[..0];
-    };
-    let from = places.sl;
-    let to = places.sl_end;
-    &part[from..to]
-}
-
 // WRITING
 
 // How many bytes the DecoderConfig has, with its head; 13 where it can not be written, or where an info has none around it.
@@ -456,31 +420,4 @@ pub fn write(esds: Esds, url: &[u8], info: &[u8], sl: &[u8], out: &mut [u8]) -> 
     full::write(out, 8, 0, esds.flags);
     put_stream(out, length, first, second, esds, url, info, sl);
     Put::Done(total)
-}
-
-// NEW
-
-// The record of a new AAC stream: MPEG-4 audio (0x40) that goes downwards, with an AudioSpecificConfig (`asc::write`) as its
-// info, and with an SLConfig. In a file its number is 0, and the SLConfig's content 02 (14496-14, 3.1.2).
-pub fn fresh(bitrate: u32) -> Esds
-    ensures { λ r. ⌜ r ≡ freshOf bitrate ⌝ }
-{
-    Esds {
-        flags: 0,
-        stream: Stream {
-            id: 0,
-            flags: 0,
-            depends_on: 0,
-            ocr_id: 0,
-        },
-        decoder: Decoder::Is(Config {
-            object_type_indication: 0x40,
-            stream: 0x15,
-            buffer_size: 0,
-            max_bitrate: bitrate,
-            avg_bitrate: bitrate,
-            has_info: true,
-        }),
-        has_sl: true,
-    }
 }

@@ -6,8 +6,6 @@ use Rattle.mp4a.proofs.read.Reads as mp4a-read
 use Rattle.mp4a.proofs.write.Reads as mp4a-write
 use Rattle.mp4a.proofs.children.Reads as mp4a-children
 use Rattle.mp4a.proofs.esds.Reads as mp4a-esds
-use Rattle.mp4a.proofs.rate.Reads as mp4a-rate
-use Rattle.mp4a.proofs.fresh.Reads as mp4a-fresh
 
 mp4a-read-fixed : (κs : _) (a : _) (r q : _) (s t : _) → mp4a-read.Post κs a r s → mp4a-read.Post κs a q t → r ≡ q
 mp4a-read-fixed κs a r q s t p o = p ∙ sym o
@@ -18,11 +16,5 @@ mp4a-write-fixed κs a r q s t p o = (cc, cc)
 mp4a-children-fixed : (κs : _) (a : _) (r q : _) (s t : _) → mp4a-children.Post κs a r s → mp4a-children.Post κs a q t → now r ≡ now q
 mp4a-children-fixed κs a r q s t p o = p ∙ sym o
 
-mp4a-rate-fixed : (κs : _) (a : _) (r q : _) (s t : _) → mp4a-rate.Post κs a r s → mp4a-rate.Post κs a q t → r ≡ q
-mp4a-rate-fixed κs a r q s t p o = p ∙ sym o
-
 mp4a-esds-fixed : (κs : _) (a : _) (r q : _) (s t : _) → mp4a-esds.Post κs a r s → mp4a-esds.Post κs a q t → now r ≡ now q
 mp4a-esds-fixed κs a r q s t p o = p ∙ sym o
-
-mp4a-fresh-fixed : (κs : _) (a : _) (r q : _) (s t : _) → mp4a-fresh.Post κs a r s → mp4a-fresh.Post κs a q t → r ≡ q
-mp4a-fresh-fixed κs a r q s t p o = p ∙ sym o

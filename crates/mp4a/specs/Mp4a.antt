@@ -1,12 +1,8 @@
 -- The sample entry of MPEG-4 audio (AudioSampleEntry of version 0, ISO/IEC 14496-12, 12.2.3; MP4AudioSampleEntry,
 -- 14496-14, 5.6): an index, three numbers of the sound, and boxes, which are the rest of the box. Assumes nothing.
-use Prim.Native.Nat.{ℕ, _*_, _^_}
+use Prim.Native.Nat.{ℕ}
 use mathlib.Core.List.{List, [], _∷_}
 use lib.ListN.{getD}
-use lib.Dec.{ltb}
-use Rattle.numbers.specs.Field.{refusal, when}
-use Rattle.numbers.specs.declared.U32.{U32}
-use Rattle.numbers.specs.declared.U32.the-variants as u32
 use Rattle.put.specs.Put.{Wrote}
 use Rattle.layout.specs.Read.{readOf, answer, restOf}
 use Rattle.layout.specs.Write.{writeOf, padded, slotted}
@@ -42,15 +38,3 @@ esdsOf part = childOf 0x65736473 (childrenOf part)
 
 abbrev pub mp4aIn : Mp4a → List ℕ → List ℕ → Wrote
 mp4aIn m children out = writeOf kind fields (to m) children out
-
--- a whole frequency as a number with 16 bits before the point and 16 behind it; 13 where it has more than 16 bits
-abbrev pub rateOf : ℕ → U32
-rateOf f = when (ltb f (2 ^ 16)) (u32.Is (f * 2 ^ 16)) (u32.Refused (refusal 13 0))
-
--- a new entry: the first data reference, samples of 16 bits (the template value of 12.2.3), and the rate, where there is one
-abbrev pub withRate : ℕ → U32 → Found
-withRate c (u32.Is r) = Is (record { «data_reference_index» = 1; channelcount = c; samplesize = 16; samplerate = r })
-withRate c (u32.Refused q) = Refused q
-
-abbrev pub freshOf : ℕ → ℕ → Found
-freshOf c f = withRate c (rateOf f)

@@ -2,10 +2,9 @@
 // 14496-14, 5.6): an index, three numbers of the sound, and boxes, which are the rest of the box.
 ghost use mathlib.Core.Path.{_≡_};
 ghost use Rattle.put.specs.Put.{wrote};
-ghost use Rattle.mp4a.specs.Mp4a.{mp4aOf, childrenOf, esdsOf, mp4aIn, rateOf, freshOf};
+ghost use Rattle.mp4a.specs.Mp4a.{mp4aOf, childrenOf, esdsOf, mp4aIn};
 use layout::Field;
 use numbers::Refusal;
-use numbers::U32;
 use put::Put;
 
 // The rate has 16 bits before the point, and 16 behind it.
@@ -88,40 +87,31 @@ pub fn esds(part: &[u8]) -> &[u8]
 pub fn write(mp4a: Mp4a, children: &[u8], out: &mut [u8]) -> Put
     ensures { λ r. ⌜ wrote r (now (out .exit)) ≡ mp4aIn mp4a (now (children .entry)) (now (out .entry)) ⌝ }
 {
-    let mut v = [0; 24];
-    v[0] = mp4a.data_reference_index as u64;
-    v[1] = mp4a.channelcount as u64;
-    v[2] = mp4a.samplesize as u64;
-    v[3] = mp4a.samplerate as u64;
+    let v = [
+        mp4a.data_reference_index as u64,
+        mp4a.channelcount as u64,
+        mp4a.samplesize as u64,
+        mp4a.samplerate as u64,
+        0,
+        0,
+        0,
+        0,
+        0,
+        0,
+        0,
+        0,
+        0,
+        0,
+        0,
+        0,
+        0,
+        0,
+        0,
+        0,
+        0,
+        0,
+        0,
+        0,
+    ];
     layout::write::by(out, KIND, ROW, v, children)
-}
-
-// The rate of a whole number of samples each second. One that has more than 16 bits is 13: none of its bits is dropped.
-pub fn rate(frequency: u32) -> U32
-    ensures { λ r. ⌜ r ≡ rateOf frequency ⌝ }
-{
-    if 0xffff < frequency {
-        return U32::Refused(Refusal {
-            number: 13,
-            detail: 0,
-        });
-    }
-    let whole = frequency as u16;
-    U32::Is((whole as u32) * 0x1_0000)
-}
-
-// The record of a new entry: its samples are in the first data reference, and have 16 bits. 13 where the entry cannot say
-// the frequency.
-pub fn fresh(channels: u16, frequency: u32) -> Found
-    ensures { λ r. ⌜ r ≡ freshOf channels frequency ⌝ }
-{
-    match rate(frequency) {
-        U32::Refused(q) => Found::Refused(q),
-        U32::Is(samplerate) => Found::Is(Mp4a {
-            data_reference_index: 1,
-            channelcount: channels,
-            samplesize: 16,
-            samplerate: samplerate,
-        }),
-    }
 }

@@ -5,7 +5,6 @@ use denote.Ref.{now}
 use Rattle.tx3g.proofs.read.Reads as tx3g-read
 use Rattle.tx3g.proofs.write.Reads as tx3g-write
 use Rattle.tx3g.proofs.rest.Reads as tx3g-rest
-use Rattle.tx3g.proofs.fresh.Reads as tx3g-fresh
 
 tx3g-read-fixed : (κs : _) (a : _) (r q : _) (s t : _) → tx3g-read.Post κs a r s → tx3g-read.Post κs a q t → r ≡ q
 tx3g-read-fixed κs a r q s t p o = p ∙ sym o
@@ -15,6 +14,3 @@ tx3g-write-fixed κs a r q s t p o = (cc, cc)
 
 tx3g-rest-fixed : (κs : _) (a : _) (r q : _) (s t : _) → tx3g-rest.Post κs a r s → tx3g-rest.Post κs a q t → now r ≡ now q
 tx3g-rest-fixed κs a r q s t p o = p ∙ sym o
-
-tx3g-fresh-fixed : (κs : _) (a : _) (r q : _) (s t : _) → tx3g-fresh.Post κs a r s → tx3g-fresh.Post κs a q t → r ≡ q
-tx3g-fresh-fixed κs a r q s t p o = p ∙ sym o

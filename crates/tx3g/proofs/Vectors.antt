@@ -91,9 +91,3 @@ tx3g-written = refl
 tx3g-too-small : tx3g-is.tx3gIn text ftab (replicate 55 9) ≡ wrote (put.Refused (refusal 12 56)) (replicate 55 9)
 unfolding bytes when ruleOf lay encode
 tx3g-too-small = refl
-
--- a new entry, in its 46 bytes
-tx3g-fresh : tx3g-is.tx3gIn tx3g-is.freshOf [] (replicate 46 9)
-    ≡ wrote (put.Done 46) (full 0x74783367 (bytes 6 0 ++ bytes 2 1 ++ bytes 4 0 ++ bytes 2 0x1ff ++ bytes 4 255 ++ bytes 8 0 ++ bytes 8 0x0000_0000_0001_0010 ++ bytes 4 0xffff_ffff) [])
-unfolding bytes when ruleOf lay encode
-tx3g-fresh = refl

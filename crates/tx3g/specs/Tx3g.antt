@@ -38,8 +38,3 @@ boxesOf part = restOf (readOf kind fields part) part
 
 abbrev pub tx3gIn : Tx3g → List ℕ → List ℕ → Wrote
 tx3gIn m rest out = writeOf kind fields (to m) rest out
-
--- a new entry: the first data reference, centred at the bottom (1 and -1), no box of its own, white on black in 16 points of
--- the font 1
-abbrev pub freshOf : Tx3g
-freshOf = from (1 ∷ 0 ∷ 1 ∷ 255 ∷ 0 ∷ 0 ∷ 0 ∷ 255 ∷ 0 ∷ 0 ∷ 0 ∷ 0 ∷ 0 ∷ 0 ∷ 1 ∷ 0 ∷ 16 ∷ 255 ∷ 255 ∷ 255 ∷ 255 ∷ [])

@@ -3,7 +3,7 @@
 // they are kept as their raw bits, in two's complement.
 ghost use mathlib.Core.Path.{_≡_};
 ghost use Rattle.put.specs.Put.{wrote};
-ghost use Rattle.tx3g.specs.Tx3g.{tx3gOf, boxesOf, tx3gIn, freshOf};
+ghost use Rattle.tx3g.specs.Tx3g.{tx3gOf, boxesOf, tx3gIn};
 use layout::Field;
 use numbers::Refusal;
 use put::Put;
@@ -112,57 +112,31 @@ pub fn rest(part: &[u8]) -> &[u8]
 pub fn write(tx3g: Tx3g, rest: &[u8], out: &mut [u8]) -> Put
     ensures { λ r. ⌜ wrote r (now (out .exit)) ≡ tx3gIn tx3g (now (rest .entry)) (now (out .entry)) ⌝ }
 {
-    let mut v = [0; 24];
-    v[0] = tx3g.data_reference_index as u64;
-    v[1] = tx3g.display_flags as u64;
-    v[2] = tx3g.horizontal_justification as u64;
-    v[3] = tx3g.vertical_justification as u64;
-    v[4] = tx3g.background_red as u64;
-    v[5] = tx3g.background_green as u64;
-    v[6] = tx3g.background_blue as u64;
-    v[7] = tx3g.background_alpha as u64;
-    v[8] = tx3g.top as u64;
-    v[9] = tx3g.left as u64;
-    v[10] = tx3g.bottom as u64;
-    v[11] = tx3g.right as u64;
-    v[12] = tx3g.start_char as u64;
-    v[13] = tx3g.end_char as u64;
-    v[14] = tx3g.font_id as u64;
-    v[15] = tx3g.face_style_flags as u64;
-    v[16] = tx3g.font_size as u64;
-    v[17] = tx3g.text_red as u64;
-    v[18] = tx3g.text_green as u64;
-    v[19] = tx3g.text_blue as u64;
-    v[20] = tx3g.text_alpha as u64;
+    let v = [
+        tx3g.data_reference_index as u64,
+        tx3g.display_flags as u64,
+        tx3g.horizontal_justification as u64,
+        tx3g.vertical_justification as u64,
+        tx3g.background_red as u64,
+        tx3g.background_green as u64,
+        tx3g.background_blue as u64,
+        tx3g.background_alpha as u64,
+        tx3g.top as u64,
+        tx3g.left as u64,
+        tx3g.bottom as u64,
+        tx3g.right as u64,
+        tx3g.start_char as u64,
+        tx3g.end_char as u64,
+        tx3g.font_id as u64,
+        tx3g.face_style_flags as u64,
+        tx3g.font_size as u64,
+        tx3g.text_red as u64,
+        tx3g.text_green as u64,
+        tx3g.text_blue as u64,
+        tx3g.text_alpha as u64,
+        0,
+        0,
+        0,
+    ];
     layout::write::by(out, KIND, ROW, v, rest)
-}
-
-// The record of a new entry: its samples are in the first data reference, the text is centred at the bottom (-1), white on
-// black, in 16 points of the font 1.
-pub fn fresh() -> Tx3g
-    ensures { λ r. ⌜ r ≡ freshOf ⌝ }
-{
-    Tx3g {
-        data_reference_index: 1,
-        display_flags: 0,
-        horizontal_justification: 1,
-        vertical_justification: 0xff,
-        background_red: 0,
-        background_green: 0,
-        background_blue: 0,
-        background_alpha: 255,
-        top: 0,
-        left: 0,
-        bottom: 0,
-        right: 0,
-        start_char: 0,
-        end_char: 0,
-        font_id: 1,
-        face_style_flags: 0,
-        font_size: 16,
-        text_red: 255,
-        text_green: 255,
-        text_blue: 255,
-        text_alpha: 255,
-    }
 }

@@ -5,7 +5,6 @@ use denote.Ref.{now}
 use Rattle.visual.proofs.read.Reads as visual-read
 use Rattle.visual.proofs.write.Reads as visual-write
 use Rattle.visual.proofs.children.Reads as visual-children
-use Rattle.visual.proofs.fresh.Reads as visual-fresh
 
 visual-read-fixed : (κs : _) (a : _) (r q : _) (s t : _) → visual-read.Post κs a r s → visual-read.Post κs a q t → r ≡ q
 visual-read-fixed κs a r q s t p o = p ∙ sym o
@@ -15,6 +14,3 @@ visual-write-fixed κs a r q s t p o = (cc, cc)
 
 visual-children-fixed : (κs : _) (a : _) (r q : _) (s t : _) → visual-children.Post κs a r s → visual-children.Post κs a q t → now r ≡ now q
 visual-children-fixed κs a r q s t p o = p ∙ sym o
-
-visual-fresh-fixed : (κs : _) (a : _) (r q : _) (s t : _) → visual-fresh.Post κs a r s → visual-fresh.Post κs a q t → r ≡ q
-visual-fresh-fixed κs a r q s t p o = p ∙ sym o

@@ -92,9 +92,3 @@ visual-written = refl
 visual-too-small : visual-is.visualIn k small child (replicate 93 9) ≡ wrote (put.Refused (refusal 12 94)) (replicate 93 9)
 unfolding bytes when ruleOf lay encode
 visual-too-small = refl
-
--- a new entry of 320 by 240, in its 86 bytes
-visual-fresh : visual-is.visualIn k (visual-is.freshOf 320 240) [] (replicate 86 9)
-    ≡ wrote (put.Done 86) (full k (bytes 6 0 ++ bytes 2 1 ++ bytes 8 0 ++ bytes 8 0 ++ bytes 4 0x0140_00f0 ++ bytes 8 0x0048_0000_0048_0000 ++ bytes 4 0 ++ bytes 2 1 ++ replicate 32 0 ++ bytes 2 24 ++ bytes 2 0xffff) [])
-unfolding bytes when ruleOf lay encode
-visual-fresh = refl

@@ -2,7 +2,7 @@
 -- size of the picture, its resolutions as raw 16.16, how many frames a sample has, the 32 bytes of the compressor's name as
 -- four numbers, and the depth. Behind them its boxes, to the entry's end. What is predefined or reserved is passed over.
 -- Assumes nothing.
-use Prim.Native.Nat.{ℕ, _*_, _^_}
+use Prim.Native.Nat.{ℕ}
 use mathlib.Core.List.{List, [], _∷_}
 use lib.ListN.{getD}
 use Rattle.put.specs.Put.{Wrote}
@@ -32,8 +32,3 @@ childrenOf kind part = restOf (readOf kind fields part) part
 
 abbrev pub visualIn : ℕ → Visual → List ℕ → List ℕ → Wrote
 visualIn kind m children out = writeOf kind fields (to m) children out
-
--- a new entry: the first data reference, no name, and the template values of 12.1.3: 72 dots an inch, one frame in a sample,
--- 24 bits of colour
-abbrev pub freshOf : ℕ → ℕ → Visual
-freshOf w h = record { «data_reference_index» = 1; width = w; height = h; horizresolution = 72 * 2 ^ 16; vertresolution = 72 * 2 ^ 16; «frame_count» = 1; name0 = 0; name1 = 0; name2 = 0; name3 = 0; depth = 24 }

@@ -3,7 +3,7 @@
 // four numbers, and the depth. Behind them its boxes, to the entry's end. What is predefined or reserved is passed over.
 ghost use mathlib.Core.Path.{_≡_};
 ghost use Rattle.put.specs.Put.{wrote};
-ghost use Rattle.visual.specs.Visual.{visualOf, childrenOf, visualIn, freshOf};
+ghost use Rattle.visual.specs.Visual.{visualOf, childrenOf, visualIn};
 use layout::Field;
 use numbers::Refusal;
 use put::Put;
@@ -90,37 +90,31 @@ pub fn children(part: &[u8], kind: u32) -> &[u8]
 pub fn write(visual: Visual, kind: u32, children: &[u8], out: &mut [u8]) -> Put
     ensures { λ r. ⌜ wrote r (now (out .exit)) ≡ visualIn kind visual (now (children .entry)) (now (out .entry)) ⌝ }
 {
-    let mut v = [0; 24];
-    v[0] = visual.data_reference_index as u64;
-    v[1] = visual.width as u64;
-    v[2] = visual.height as u64;
-    v[3] = visual.horizresolution as u64;
-    v[4] = visual.vertresolution as u64;
-    v[5] = visual.frame_count as u64;
-    v[6] = visual.name0;
-    v[7] = visual.name1;
-    v[8] = visual.name2;
-    v[9] = visual.name3;
-    v[10] = visual.depth as u64;
+    let v = [
+        visual.data_reference_index as u64,
+        visual.width as u64,
+        visual.height as u64,
+        visual.horizresolution as u64,
+        visual.vertresolution as u64,
+        visual.frame_count as u64,
+        visual.name0,
+        visual.name1,
+        visual.name2,
+        visual.name3,
+        visual.depth as u64,
+        0,
+        0,
+        0,
+        0,
+        0,
+        0,
+        0,
+        0,
+        0,
+        0,
+        0,
+        0,
+        0,
+    ];
     layout::write::by(out, kind, ROW, v, children)
-}
-
-// The record of a new entry: its samples are in the first data reference, and the rest is what the standard gives where a
-// writer has nothing else to say. No compressor is named.
-pub fn fresh(width: u16, height: u16) -> Visual
-    ensures { λ r. ⌜ r ≡ freshOf width height ⌝ }
-{
-    Visual {
-        data_reference_index: 1,
-        width: width,
-        height: height,
-        horizresolution: 0x0048_0000,
-        vertresolution: 0x0048_0000,
-        frame_count: 1,
-        name0: 0,
-        name1: 0,
-        name2: 0,
-        name3: 0,
-        depth: 0x0018,
-    }
 }

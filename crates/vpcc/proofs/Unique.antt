@@ -5,11 +5,6 @@ use denote.Ref.{now}
 use Rattle.vpcc.proofs.read.Reads as vpcc-read
 use Rattle.vpcc.proofs.initialization.Reads as vpcc-initial
 use Rattle.vpcc.proofs.write.Reads as vpcc-write
-use Rattle.vpcc.proofs.bit_depth.Reads as vpcc-depth
-use Rattle.vpcc.proofs.chroma.Reads as vpcc-chroma
-use Rattle.vpcc.proofs.full_range.Reads as vpcc-full
-use Rattle.vpcc.proofs.sampling.Reads as vpcc-sampling
-use Rattle.vpcc.proofs.fresh.Reads as vpcc-fresh
 
 vpcc-read-fixed : (κs : _) (a : _) (r q : _) (s t : _) → vpcc-read.Post κs a r s → vpcc-read.Post κs a q t → r ≡ q
 vpcc-read-fixed κs a r q s t p o = p ∙ sym o
@@ -19,18 +14,3 @@ vpcc-initial-fixed κs a r q s t p o = p ∙ sym o
 
 vpcc-write-fixed : (κs : _) (a : _) (r q : _) (s t : _) → vpcc-write.Post κs a r s → vpcc-write.Post κs a q t → (r ≡ q) × (now (s .1 .1 .0) ≡ now (t .1 .1 .0))
 vpcc-write-fixed κs a r q s t p o = (cc, cc)
-
-vpcc-depth-fixed : (κs : _) (a : _) (r q : _) (s t : _) → vpcc-depth.Post κs a r s → vpcc-depth.Post κs a q t → r ≡ q
-vpcc-depth-fixed κs a r q s t p o = p ∙ sym o
-
-vpcc-chroma-fixed : (κs : _) (a : _) (r q : _) (s t : _) → vpcc-chroma.Post κs a r s → vpcc-chroma.Post κs a q t → r ≡ q
-vpcc-chroma-fixed κs a r q s t p o = p ∙ sym o
-
-vpcc-full-fixed : (κs : _) (a : _) (r q : _) (s t : _) → vpcc-full.Post κs a r s → vpcc-full.Post κs a q t → r ≡ q
-vpcc-full-fixed κs a r q s t p o = p ∙ sym o
-
-vpcc-sampling-fixed : (κs : _) (a : _) (r q : _) (s t : _) → vpcc-sampling.Post κs a r s → vpcc-sampling.Post κs a q t → r ≡ q
-vpcc-sampling-fixed κs a r q s t p o = p ∙ sym o
-
-vpcc-fresh-fixed : (κs : _) (a : _) (r q : _) (s t : _) → vpcc-fresh.Post κs a r s → vpcc-fresh.Post κs a q t → r ≡ q
-vpcc-fresh-fixed κs a r q s t p o = p ∙ sym o

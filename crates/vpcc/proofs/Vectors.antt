@@ -1,12 +1,10 @@
 -- Worked examples of the definitions, computed. Assumes nothing.
 use mathlib.Core.Path.{_≡_, refl}
 use mathlib.Core.List.{List, [], _∷_, _++_}
-use mathlib.Core.Bool.{true, false}
 use Prim.Native.Nat.{ℕ}
 use lib.ListN.{replicate}
 use Rattle.numbers.specs.Number.{be, bytes}
 use Rattle.numbers.specs.Field.{refusal, field, when}
-use Rattle.numbers.specs.declared.U8.the-variants as byte
 use Rattle.put.specs.Put.{wrote}
 use Rattle.put.specs.declared.Put.the-variants as put
 use Rattle.layout.specs.Rule.{ruleOf}
@@ -92,41 +90,3 @@ vpcc-too-small = refl
 vpcc-fewer : vpcc-is.vpccIn (hdr 2) (5 ∷ []) (replicate 23 9) ≡ wrote (put.Refused (refusal 13 0)) (replicate 23 9)
 unfolding bytes when ruleOf lay encode
 vpcc-fewer = refl
-
--- the three numbers in a byte, and both sides of each limit
-depth : vpcc-is.depthOf 0xa3 ≡ 10
-depth = refl
-
-chroma : vpcc-is.chromaOf 0xa3 ≡ 1
-chroma = refl
-
-full : vpcc-is.fullOf 0xa3 ≡ true
-full = refl
-
-narrow : vpcc-is.fullOf 0xa2 ≡ false
-narrow = refl
-
-together : vpcc-is.samplingOf 10 1 true ≡ byte.Is 0xa3
-unfolding when
-together = refl
-
-most : vpcc-is.samplingOf 15 7 true ≡ byte.Is 255
-unfolding when
-most = refl
-
-too-deep : vpcc-is.samplingOf 16 0 false ≡ byte.Refused (refusal 13 0)
-unfolding when
-too-deep = refl
-
-too-fine : vpcc-is.samplingOf 8 8 false ≡ byte.Refused (refusal 13 0)
-unfolding when
-too-fine = refl
-
--- a new track's box, in 20 bytes
-vpcc-fresh : vpcc-is.vpccIn vpcc-is.freshOf [] (replicate 20 9) ≡ wrote (put.Done 20) (box 0x76706343 1 0 (bytes 8 0x001f80_020202_0000))
-unfolding bytes when ruleOf lay encode
-vpcc-fresh = refl
-
-vpcc-fresh-byte : vpcc-is.samplingOf 8 0 false ≡ byte.Is (vpcc-is.freshOf .sampling)
-unfolding when
-vpcc-fresh-byte = refl

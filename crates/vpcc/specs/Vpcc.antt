@@ -1,14 +1,9 @@
 -- How a VP8 or VP9 track is coded (VP Codec ISO Media File Format Binding, 'vpcC', version 1): profile, level, bit depth,
 -- chroma subsampling and range in one byte, three codes of its colours, and the data that the codec begins with: a size in
 -- bytes, and as many bytes. Assumes nothing.
-use Prim.Native.Nat.{ℕ, _+_, _*_, _/_, _%_}
+use Prim.Native.Nat.{ℕ, _*_}
 use mathlib.Core.List.{List, [], _∷_}
-use mathlib.Core.Bool.{Bool}
 use lib.ListN.{getD}
-use lib.Dec.{eqb, ltb}
-use Rattle.numbers.specs.Field.{refusal, when}
-use Rattle.numbers.specs.declared.U8.{U8}
-use Rattle.numbers.specs.declared.U8.the-variants as byte
 use Rattle.put.specs.Put.{Wrote}
 use Rattle.parts.specs.Parts.{partOf}
 use Rattle.layout.specs.Read.{readOf}
@@ -50,25 +45,3 @@ within part (Refused q) = []
 
 abbrev pub initializationOf : List ℕ → List ℕ
 initializationOf part = within part (vpccOf part)
-
--- the bit depth, the chroma subsampling and the range flag, from the high end of their byte
-abbrev pub depthOf : ℕ → ℕ
-depthOf sampling = sampling / 16
-
-abbrev pub chromaOf : ℕ → ℕ
-chromaOf sampling = sampling / 2 % 8
-
-abbrev pub fullOf : ℕ → Bool
-fullOf sampling = eqb (sampling % 2) 1
-
--- and their byte: 4 bits, 3 bits, 1 bit
-abbrev pub samplingOf : ℕ → ℕ → Bool → U8
-samplingOf depth chroma full =
-    when (ltb 15 depth) (byte.Refused (refusal 13 0))
-    (when (ltb 7 chroma) (byte.Refused (refusal 13 0))
-    (byte.Is (depth * 16 + chroma * 2 + when full 1 0)))
-
--- a new VP9 track: profile 0, level 3.1, 8 bits of 4:2:0 in the narrow range, nothing known of its colours (23001-8:
--- 2), no initialization data
-abbrev pub freshOf : Vpcc
-freshOf = from (1 ∷ 0 ∷ 0 ∷ 31 ∷ 8 * 16 ∷ 2 ∷ 2 ∷ 2 ∷ 0 ∷ [])

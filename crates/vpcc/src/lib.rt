@@ -2,14 +2,11 @@
 // chroma subsampling and range in one byte, three codes of its colours, and the data that the codec begins with: a size in
 // bytes, and as many bytes.
 ghost use mathlib.Core.Path.{_≡_};
-ghost use Prim.Native.Nat.{_≤_};
 ghost use Rattle.put.specs.Put.{wrote};
-ghost use Rattle.numbers.specs.Field.{when};
-ghost use Rattle.vpcc.specs.Vpcc.{vpccOf, initializationOf, vpccIn, depthOf, chromaOf, fullOf, samplingOf, freshOf};
+ghost use Rattle.vpcc.specs.Vpcc.{vpccOf, initializationOf, vpccIn};
 use layout::Field;
 use layout::table::Cut;
 use numbers::Refusal;
-use numbers::U8;
 use put::Put;
 
 pub struct Vpcc {
@@ -118,77 +115,31 @@ pub fn write(vpcc: Vpcc, initialization: &[u8], out: &mut [u8]) -> Put
             detail: 0,
         });
     }
-    let mut v = [0; 24];
-    v[0] = vpcc.version as u64;
-    v[1] = vpcc.flags as u64;
-    v[2] = vpcc.profile as u64;
-    v[3] = vpcc.level as u64;
-    v[4] = vpcc.sampling as u64;
-    v[5] = vpcc.colour_primaries as u64;
-    v[6] = vpcc.transfer_characteristics as u64;
-    v[7] = vpcc.matrix_coefficients as u64;
-    v[8] = vpcc.codec_initialization_data_size as u64;
+    let v = [
+        vpcc.version as u64,
+        vpcc.flags as u64,
+        vpcc.profile as u64,
+        vpcc.level as u64,
+        vpcc.sampling as u64,
+        vpcc.colour_primaries as u64,
+        vpcc.transfer_characteristics as u64,
+        vpcc.matrix_coefficients as u64,
+        vpcc.codec_initialization_data_size as u64,
+        0,
+        0,
+        0,
+        0,
+        0,
+        0,
+        0,
+        0,
+        0,
+        0,
+        0,
+        0,
+        0,
+        0,
+        0,
+    ];
     layout::write::by(out, KIND, ROW, v, initialization)
-}
-
-// What the byte `sampling` holds: the bit depth in its 4 high bits, the chroma subsampling in 3, the range in the last.
-pub fn bit_depth(sampling: u8) -> u8
-    ensures { λ r. ⌜ r ≡ depthOf sampling ⌝ }
-{
-    sampling / 16
-}
-
-pub fn chroma(sampling: u8) -> u8
-    ensures { λ r. ⌜ r ≡ chromaOf sampling ⌝ }
-{
-    sampling / 2 % 8
-}
-
-pub fn full_range(sampling: u8) -> bool
-    ensures { λ r. ⌜ r ≡ fullOf sampling ⌝ }
-{
-    sampling % 2 == 1
-}
-
-fn bit(set: bool) -> u8
-    ensures { λ r. ⌜ (r ≡ when set 1 0) × (r ≤ 1) ⌝ }
-{
-    if set { 1 } else { 0 }
-}
-
-// The byte that holds them; 13 where a number has no such bits.
-pub fn sampling(depth: u8, chroma: u8, full: bool) -> U8
-    ensures { λ r. ⌜ r ≡ samplingOf depth chroma full ⌝ }
-{
-    if 15 < depth {
-        return U8::Refused(Refusal {
-            number: 13,
-            detail: 0,
-        });
-    }
-    if 7 < chroma {
-        return U8::Refused(Refusal {
-            number: 13,
-            detail: 0,
-        });
-    }
-    U8::Is(depth * 16 + chroma * 2 + bit(full))
-}
-
-// The record of a new VP9 track: profile 0, level 3.1, 8 bits of 4:2:0 in the narrow range. Nothing is known of its
-// colours: 2.
-pub fn fresh() -> Vpcc
-    ensures { λ r. ⌜ r ≡ freshOf ⌝ }
-{
-    Vpcc {
-        version: 1,
-        flags: 0,
-        profile: 0,
-        level: 31,
-        sampling: 0x80,
-        colour_primaries: 2,
-        transfer_characteristics: 2,
-        matrix_coefficients: 2,
-        codec_initialization_data_size: 0,
-    }
 }

@@ -1,23 +1,28 @@
 use borrow.Author.Needs.{needs}
-use mathlib.Core.Path.{sym, ap, _∙_}
-use Rattle.avcc.specs.Avcc.{foundOf}
+use mathlib.Core.Path.{sym}
+use native.Mathlib.Omega.{arith}
+use lib.Seq.{length-take-le}
+use Rattle.layout.proofs.Rests.{end-in}
+use Rattle.avcc.specs.Avcc.{kind, fields}
+use Rattle.avcc.proofs.Cases.{unread, told}
 use Rattle.avcc.proofs.read.Statement.{statement}
 use Rattle.avcc.proofs.read.Tie as tie
 
-open-requires : tie.Need-open-requires
-open-requires c κs = search needs
-
-enum-known-q : tie.Need-enum-known-q
-enum-known-q c = search needs
-
-enum-known-avcc : tie.Need-enum-known-avcc
-enum-known-avcc c = search needs
+by-requires : tie.Need-by-requires
+by-requires c κs = search needs
 
 returns : tie.Need-returns
-returns c = ap foundOf (sym (c .before .q .given .1) ∙ c .before .before .before .«open» .ensures)
+returns c = unread (c .before .before .before .before .args .part .now) _ (c .before .before .by .ensures) (c .if1 .taken)
+
+slice-aggregate-content : tie.Need-slice-aggregate-content
+slice-aggregate-content c = sym (length-take-le _ (c .before .before .before .before .before .args .part .now) (omega (arith, end-in kind fields (c .before .before .before .before .before .args .part .now) _ (c .before .before .before .by .ensures))))
+
+content-requires : tie.Need-content-requires
+content-requires c κs = search needs
 
 returns-2 : tie.Need-returns-2
-returns-2 c = ap foundOf (sym (c .before .avcc .given .1) ∙ c .before .before .before .«open» .ensures)
+returns-2 c = told (c .before .before .before .before .before .before .args .part .now) _ (c .before .before .before .before .by .ensures) _ (c .before .before .if1 .left) (c .content .ensures)
 
 pub read-spec : {M : Type 1} → statement M
-read-spec = tie.close (tie.spec open-requires enum-known-q enum-known-avcc returns returns-2)
+read-spec =
+    tie.close (tie.spec by-requires returns slice-aggregate-content content-requires returns-2)

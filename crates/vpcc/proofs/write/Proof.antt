@@ -13,59 +13,32 @@ cast-size c = search needs
 returns : tie.Need-returns
 returns c = is-ne _ _ _ (length (c .before .before .before .before .args .initialization .now)) (c .before .before .before .before .args .vpcc .«codec_initialization_data_size» * 1) (λ e. c .if1 .taken (omega (arith, e))) refl
 
-cast-v : tie.Need-cast-v
-cast-v c = search needs
+cast-t7 : tie.Need-cast-t7
+cast-t7 c = search needs
 
-array-write-v : tie.Need-array-write-v
-array-write-v c = search needs
+cast-t10 : tie.Need-cast-t10
+cast-t10 c = search needs
 
-cast-v-2 : tie.Need-cast-v-2
-cast-v-2 c = search needs
+cast-t11 : tie.Need-cast-t11
+cast-t11 c = search needs
 
-array-write-v-2 : tie.Need-array-write-v-2
-array-write-v-2 c = search needs
+cast-t12 : tie.Need-cast-t12
+cast-t12 c = search needs
 
-cast-v-3 : tie.Need-cast-v-3
-cast-v-3 c = search needs
+cast-t13 : tie.Need-cast-t13
+cast-t13 c = search needs
 
-array-write-v-3 : tie.Need-array-write-v-3
-array-write-v-3 c = search needs
+cast-t14 : tie.Need-cast-t14
+cast-t14 c = search needs
 
-cast-v-4 : tie.Need-cast-v-4
-cast-v-4 c = search needs
+cast-t15 : tie.Need-cast-t15
+cast-t15 c = search needs
 
-array-write-v-4 : tie.Need-array-write-v-4
-array-write-v-4 c = search needs
+cast-t16 : tie.Need-cast-t16
+cast-t16 c = search needs
 
-cast-v-5 : tie.Need-cast-v-5
-cast-v-5 c = search needs
-
-array-write-v-5 : tie.Need-array-write-v-5
-array-write-v-5 c = search needs
-
-cast-v-6 : tie.Need-cast-v-6
-cast-v-6 c = search needs
-
-array-write-v-6 : tie.Need-array-write-v-6
-array-write-v-6 c = search needs
-
-cast-v-7 : tie.Need-cast-v-7
-cast-v-7 c = search needs
-
-array-write-v-7 : tie.Need-array-write-v-7
-array-write-v-7 c = search needs
-
-cast-v-8 : tie.Need-cast-v-8
-cast-v-8 c = search needs
-
-array-write-v-8 : tie.Need-array-write-v-8
-array-write-v-8 c = search needs
-
-cast-v-9 : tie.Need-cast-v-9
-cast-v-9 c = search needs
-
-array-write-v-9 : tie.Need-array-write-v-9
-array-write-v-9 c = search needs
+cast-t17 : tie.Need-cast-t17
+cast-t17 c = search needs
 
 by-requires : tie.Need-by-requires
 by-requires c κs = search needs
@@ -82,24 +55,15 @@ write-spec =
     (tie.spec
     cast-size
     returns
-    cast-v
-    array-write-v
-    cast-v-2
-    array-write-v-2
-    cast-v-3
-    array-write-v-3
-    cast-v-4
-    array-write-v-4
-    cast-v-5
-    array-write-v-5
-    cast-v-6
-    array-write-v-6
-    cast-v-7
-    array-write-v-7
-    cast-v-8
-    array-write-v-8
-    cast-v-9
-    array-write-v-9
+    cast-t7
+    cast-t10
+    cast-t11
+    cast-t12
+    cast-t13
+    cast-t14
+    cast-t15
+    cast-t16
+    cast-t17
     by-requires
     same-length
     returns-2)

@@ -1,0 +1,3 @@
+pub mod SamplingLaws
+mod Unique
+mod Vectors
