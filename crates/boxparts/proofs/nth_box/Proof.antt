@@ -1,8 +1,8 @@
 use mathlib.Core.Path.{sym, ap, _∙_}
 use Rattle.children.specs.Children.{bytesOf}
 use borrow.Author.Needs.{needs}
-use Rattle.children.proofs.nth_box.Statement.{statement}
-use Rattle.children.proofs.nth_box.Tie as tie
+use Rattle.boxparts.proofs.nth_box.Statement.{statement}
+use Rattle.boxparts.proofs.nth_box.Tie as tie
 
 nth-place-requires : tie.Need-nth-place-requires
 nth-place-requires c κs = search needs

@@ -1,8 +1,8 @@
 use mathlib.Core.Path.{sym, _∙_}
 use Rattle.children.proofs.Turns.{looked-for}
 use borrow.Author.Needs.{needs}
-use Rattle.children.proofs.first_box.Statement.{statement}
-use Rattle.children.proofs.first_box.Tie as tie
+use Rattle.boxparts.proofs.first_box.Statement.{statement}
+use Rattle.boxparts.proofs.first_box.Tie as tie
 
 first-from-requires : tie.Need-first-from-requires
 first-from-requires c κs = search needs

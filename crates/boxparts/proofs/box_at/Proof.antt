@@ -1,8 +1,8 @@
 use mathlib.Core.Path.{sym, ap, _∙_}
 use Rattle.children.specs.Children.{boxed}
 use borrow.Author.Needs.{needs}
-use Rattle.children.proofs.box_at.Statement.{statement}
-use Rattle.children.proofs.box_at.Tie as tie
+use Rattle.boxparts.proofs.box_at.Statement.{statement}
+use Rattle.boxparts.proofs.box_at.Tie as tie
 
 read-requires : tie.Need-read-requires
 read-requires c κs = search needs

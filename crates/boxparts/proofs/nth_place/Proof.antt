@@ -3,11 +3,11 @@ use mathlib.Core.Path.{_≡_, refl, sym, _∙_}
 use native.Mathlib.Omega.{arith}
 use lib.ListN.{length}
 use Rattle.boxes.proofs.Within.{header-within}
 use Rattle.children.specs.Children.{rowOf, nthIn}
 use Rattle.children.proofs.Turns.{nth-fault, is-nth, not-nth, none-nth}
 use borrow.Author.Needs.{needs}
-use Rattle.children.proofs.nth_place.Statement.{statement}
-use Rattle.children.proofs.nth_place.Tie as tie
+use Rattle.boxparts.proofs.nth_place.Statement.{statement}
+use Rattle.boxparts.proofs.nth_place.Tie as tie
 
 abbrev Inv-loop : tie.InvT-loop
 Inv-loop s i place₀ left₀ place left = (f : ℕ) × (length s - place ≤ f) × (nthIn left (rowOf f s place) ≡ nthIn i (rowOf (length s) s 0))
