@@ -28,7 +28,7 @@ pub fn avcc(part: &[u8]) -> &[u8]
     ensures { λ r. ⌜ now r ≡ avccOf (now (part .entry)) ⌝ }
 {
     let boxes = visual::children(part, KIND);
-    children::first_box(boxes, 0x61766343)
+    boxparts::first_box(boxes, 0x61766343)
 }
 
 pub fn write(entry: Visual, children: &[u8], out: &mut [u8]) -> Put

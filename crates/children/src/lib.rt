@@ -3,15 +3,11 @@
 ghost use mathlib.Core.Path.{_≡_};
 ghost use Prim.Native.Nat.{_-_};
 ghost use lib.ListN.{length};
-ghost use mathlib.Core.Bool.{false};
-ghost use Rattle.put.specs.Put.{wrote};
-ghost use Rattle.boxes.specs.Header.{headerOf};
-ghost use Rattle.children.specs.Children.{rowOf, firstIn, wholeIn, firstOf, wholeOf, placeOf, contentOf, containerIn, boxed, nthIn, childOf, nthOf};
+ghost use Rattle.children.specs.Children.{rowOf, firstIn, wholeIn, firstOf, wholeOf, placeOf};
 use boxes::header;
 use boxes::header::Found;
 use layout::Field;
 use numbers::Refusal;
-use put::Put;
 use rows::Judged;
 
 // Where the first child of a type begins, unless a fault comes before it.
@@ -28,7 +24,7 @@ pub enum Place {
 }
 
 // A box with no fields of its own.
-const ROW: [Field; 24] = [
+pub const ROW: [Field; 24] = [
     Field::Nothing,
     Field::Nothing,
     Field::Nothing,
@@ -70,29 +66,6 @@ pub fn first_from(s: &[u8], from: usize, kind: u32) -> Child
                     return Child::At(at);
                 }
                 at = at + h.size;
-            }
-        }
-    }
-    Child::Absent
-}
-
-// The box that is `i` boxes behind the first byte.
-fn nth_place(s: &[u8], i: u32) -> Child
-    ensures { λ r. ⌜ r ≡ nthIn i (rowOf (length (now (s .entry))) (now (s .entry)) 0) ⌝ }
-{
-    let mut place = 0;
-    let mut left = i;
-    while place < s.len() {
-        match header::read(s, place, false) {
-            Found::Refused(fault) => {
-                return Child::Refused(fault);
-            }
-            Found::Is(h) => {
-                if left == 0 {
-                    return Child::At(place);
-                }
-                left = left - 1;
-                place = place + h.size;
             }
         }
     }
@@ -157,55 +130,5 @@ pub fn place_of(part: &[u8], parent: u32, kind: u32) -> Place
         Child::At(p) => Place::At(p),
         Child::Absent => Place::Absent,
         Child::Refused(_) => Place::Absent,
-    }
-}
-
-// The children's bytes, as the part of the box where they lie; no bytes where the box's header is refused.
-pub fn content(part: &[u8], parent: u32) -> &[u8]
-    ensures { λ r. ⌜ now r ≡ contentOf parent (now (part .entry)) ⌝ }
-{
-    layout::read::rest(part, parent, ROW)
-}
-
-// A box of this type around the children's bytes.
-pub fn around(children: &[u8], parent: u32, out: &mut [u8]) -> Put
-    ensures { λ r. ⌜ wrote r (now (out .exit)) ≡ containerIn parent (now (children .entry)) (now (out .entry)) ⌝ }
-{
-    layout::write::by(out, parent, ROW, [0; 24], children)
-}
-
-// The bytes of the box at `at`, from its header to its end; no bytes where its header is refused.
-fn box_at(s: &[u8], at: usize) -> &[u8]
-    ensures { λ r. ⌜ now r ≡ boxed (now (s .entry)) at (headerOf (now (s .entry)) at false) ⌝ }
-{
-    match header::read(s, at, false) {
-        Found::Is(h) => {
-            let size = h.size;
-            parts::part(s, at, size)
-        }
-        Found::Refused(_) => &s[..0],
-    }
-}
-
-// The first box of this type in bytes that are boxes, as the part where it lies, from its header to its end; no bytes
-// where there is none, or where a fault comes before it.
-pub fn first_box(s: &[u8], kind: u32) -> &[u8]
-    ensures { λ r. ⌜ now r ≡ childOf kind (now (s .entry)) ⌝ }
-{
-    match first_from(s, 0, kind) {
-        Child::At(p) => box_at(s, p),
-        Child::Absent => &s[..0],
-        Child::Refused(_) => &s[..0],
-    }
-}
-
-// The same of the i-th box, counted from 0.
-pub fn nth_box(s: &[u8], i: u32) -> &[u8]
-    ensures { λ r. ⌜ now r ≡ nthOf i (now (s .entry)) ⌝ }
-{
-    match nth_place(s, i) {
-        Child::At(place) => box_at(s, place),
-        Child::Absent => &s[..0],
-        Child::Refused(_) => &s[..0],
     }
 }

@@ -24,9 +24,9 @@ fn emsg(part: &[u8], out: &mut [u8]) {
                 ],
             );
             say::two(b.event_duration, b.id);
-            let scheme = emsg::scheme(part);
-            let value = emsg::value(part);
-            let message = emsg::message(part);
+            let scheme = emsg_parts::scheme(part);
+            let value = emsg_parts::value(part);
+            let message = emsg_parts::message(part);
             say::bytes(scheme);
             say::bytes(value);
             say::bytes(message);

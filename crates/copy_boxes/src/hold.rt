@@ -27,9 +27,9 @@ fn edts(part: &[u8], out: &mut [u8]) {
         containers::edts::Found::Is(b) => {
             let elst = b.elst;
             place(elst);
-            let content = children::content(part, EDTS);
+            let content = wrap::content(part, EDTS);
             say::canonical(part, EDTS, [Field::Nothing; 24], content.len());
-            let put = children::around(content, EDTS, out);
+            let put = wrap::around(content, EDTS, out);
             say::written(put, part, out);
         }
     }
@@ -41,9 +41,9 @@ fn dinf(part: &[u8], out: &mut [u8]) {
         containers::dinf::Found::Is(b) => {
             let dref = b.dref;
             place(dref);
-            let content = children::content(part, DINF);
+            let content = wrap::content(part, DINF);
             say::canonical(part, DINF, [Field::Nothing; 24], content.len());
-            let put = children::around(content, DINF, out);
+            let put = wrap::around(content, DINF, out);
             say::written(put, part, out);
         }
     }
@@ -55,9 +55,9 @@ fn mvex(part: &[u8], out: &mut [u8]) {
         containers::mvex::Found::Is(b) => {
             let trex = b.trex;
             place(trex);
-            let content = children::content(part, MVEX);
+            let content = wrap::content(part, MVEX);
             say::canonical(part, MVEX, [Field::Nothing; 24], content.len());
-            let put = children::around(content, MVEX, out);
+            let put = wrap::around(content, MVEX, out);
             say::written(put, part, out);
         }
     }
@@ -71,9 +71,9 @@ fn moof(part: &[u8], out: &mut [u8]) {
             place(mfhd);
             let traf = b.traf;
             place(traf);
-            let content = children::content(part, MOOF);
+            let content = wrap::content(part, MOOF);
             say::canonical(part, MOOF, [Field::Nothing; 24], content.len());
-            let put = children::around(content, MOOF, out);
+            let put = wrap::around(content, MOOF, out);
             say::written(put, part, out);
         }
     }
@@ -89,9 +89,9 @@ fn traf(part: &[u8], out: &mut [u8]) {
             place(tfdt);
             let trun = b.trun;
             place(trun);
-            let content = children::content(part, TRAF);
+            let content = wrap::content(part, TRAF);
             say::canonical(part, TRAF, [Field::Nothing; 24], content.len());
-            let put = children::around(content, TRAF, out);
+            let put = wrap::around(content, TRAF, out);
             say::written(put, part, out);
         }
     }

@@ -3,22 +3,10 @@
 use mathlib.Core.Path.{_≡_, sym, _∙_}
 use denote.Ref.{now}
 use Rattle.emsg.proofs.read.Reads as emsg-read
-use Rattle.emsg.proofs.scheme.Reads as emsg-scheme
-use Rattle.emsg.proofs.value.Reads as emsg-value
-use Rattle.emsg.proofs.message.Reads as emsg-message
 use Rattle.emsg.proofs.write.Reads as emsg-write
 
 emsg-read-fixed : (κs : _) (a : _) (r q : _) (s t : _) → emsg-read.Post κs a r s → emsg-read.Post κs a q t → r ≡ q
 emsg-read-fixed κs a r q s t p o = p ∙ sym o
-
-emsg-scheme-fixed : (κs : _) (a : _) (r q : _) (s t : _) → emsg-scheme.Post κs a r s → emsg-scheme.Post κs a q t → now r ≡ now q
-emsg-scheme-fixed κs a r q s t p o = p ∙ sym o
-
-emsg-value-fixed : (κs : _) (a : _) (r q : _) (s t : _) → emsg-value.Post κs a r s → emsg-value.Post κs a q t → now r ≡ now q
-emsg-value-fixed κs a r q s t p o = p ∙ sym o
-
-emsg-message-fixed : (κs : _) (a : _) (r q : _) (s t : _) → emsg-message.Post κs a r s → emsg-message.Post κs a q t → now r ≡ now q
-emsg-message-fixed κs a r q s t p o = p ∙ sym o
 
 emsg-write-fixed : (κs : _) (a : _) (r q : _) (s t : _) → emsg-write.Post κs a r s → emsg-write.Post κs a q t → (r ≡ q) × (now (s .1 .1 .1 .1 .0) ≡ now (t .1 .1 .1 .1 .0))
 emsg-write-fixed κs a r q s t p o = (cc, cc)

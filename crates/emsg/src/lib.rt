@@ -6,7 +6,7 @@ ghost use Prim.Native.Nat.{_+_, _-_, _^_, _≤_, _<_, min};
 ghost use lib.ListN.{length};
 ghost use lib.Seq.{sets};
 ghost use Rattle.put.specs.Put.{wrote};
-ghost use Rattle.emsg.specs.Emsg.{textAt, stringsOf, numbersOf, stringsFirst, numbersFirst, emsgOf, schemeOf, valueOf, messageOf, wide, whole, sound, stringBytes, numberBytes, laid, emsgIn};
+ghost use Rattle.emsg.specs.Emsg.{textAt, stringsOf, numbersOf, stringsFirst, numbersFirst, emsgOf, wide, whole, sound, stringBytes, numberBytes, laid, emsgIn};
 use boxes::full;
 use boxes::header;
 use layout::Field;
@@ -243,42 +243,6 @@ pub fn read(part: &[u8]) -> Found
         return strings_first(&part[..end], place, flags);
     }
     numbers_first(&part[..end], place, flags)
-}
-
-// The scheme's string without its 0, as the part of the box where it lies; no bytes where the box is refused.
-pub fn scheme(part: &[u8]) -> &[u8]
-    ensures { λ r. ⌜ now r ≡ schemeOf (now (part .entry)) ⌝ }
-{
-    let Found::Is(_, places) = read(part) else {
-        return &part[..0];
-    };
-    let from = places.scheme;
-    let to = places.scheme_end;
-    &part[from..to]
-}
-
-// The value's string, in the same way.
-pub fn value(part: &[u8]) -> &[u8]
-    ensures { λ r. ⌜ now r ≡ valueOf (now (part .entry)) ⌝ }
-{
-    let Found::Is(_, places) = read(part) else {
-        return &part[..0];
-    };
-    let from = places.value;
-    let to = places.value_end;
-    &part[from..to]
-}
-
-// The message, in the same way.
-pub fn message(part: &[u8]) -> &[u8]
-    ensures { λ r. ⌜ now r ≡ messageOf (now (part .entry)) ⌝ }
-{
-    let Found::Is(_, places) = read(part) else {
-        return &part[..0];
-    };
-    let from = places.message;
-    let to = places.end;
-    &part[from..to]
 }
 
 // WRITING

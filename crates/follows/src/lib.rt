@@ -91,7 +91,7 @@ fn step(file: &[u8], run: Run, track: u32, at: u64, before: Before, told: Follow
             before: Before {
                 some: true,
                 time: run.time,
-                lasts: runs::lasts(file, run),
+                lasts: runsums::lasts(file, run),
             },
         };
     }

@@ -44,11 +44,11 @@ use Rattle.trun.specs.declared.DataOffset.{DataOffset}
 use Rattle.trun.specs.declared.DataOffset.the-variants as offset
 use Rattle.trun.specs.declared.Found as trun-found
 use Rattle.trun.specs.declared.Found.the-variants as trun-is
-use Rattle.runs.specs.Make as make
+use Rattle.runstarts.specs.Make as make
 use Rattle.runs.specs.Samples.{endOf}
 use Rattle.runs.specs.declared.Run.{Run}
-use Rattle.runs.specs.declared.Made.{Made}
-use Rattle.runs.specs.declared.Made.the-variants as made
+use Rattle.runstarts.specs.declared.Made.{Made}
+use Rattle.runstarts.specs.declared.Made.the-variants as made
 use Rattle.runs.specs.declared.DataEnd.{DataEnd}
 use Rattle.runs.specs.declared.DataEnd.the-variants as end
 use Rattle.trafs.specs.Trafs.{ofBox, bytesOf, trexBy, withTfhd, withTrex, withTfdt, withTrun, runOf}

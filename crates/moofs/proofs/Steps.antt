@@ -17,8 +17,8 @@ use Rattle.mfhd.specs.declared.Found as mfhd-found
 use Rattle.mfhd.specs.declared.Found.the-variants as mfhd-is
 use Rattle.runs.specs.Samples.{endOf}
 use Rattle.runs.specs.declared.Run.{Run}
-use Rattle.runs.specs.declared.Made.{Made}
-use Rattle.runs.specs.declared.Made.the-variants as made
+use Rattle.runstarts.specs.declared.Made.{Made}
+use Rattle.runstarts.specs.declared.Made.the-variants as made
 use Rattle.runs.specs.declared.DataEnd.{DataEnd}
 use Rattle.runs.specs.declared.DataEnd.the-variants as end
 use Rattle.trafs.specs.Trafs.{bytesOf, runOf}

@@ -15,7 +15,7 @@ use mooftable::Moof;
 use numbers::Refusal;
 use places::kinds;
 use runs::DataEnd;
-use runs::Made;
+use runstarts::Made;
 
 // How many rows there are in each table.
 pub enum Filled {
@@ -164,7 +164,7 @@ fn add(
     ) {
         Made::Refused(q) => Step::Refused(q),
         Made::Is(run) => {
-            let DataEnd::At(end) = runs::end(s, run) else {
+            let DataEnd::At(end) = runsums::end(s, run) else {
                 return Step::Refused(Refusal {
                     number: 9,
                     detail: 0,

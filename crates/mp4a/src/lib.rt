@@ -81,7 +81,7 @@ pub fn esds(part: &[u8]) -> &[u8]
     ensures { λ r. ⌜ now r ≡ esdsOf (now (part .entry)) ⌝ }
 {
     let boxes = layout::read::rest(part, KIND, ROW);
-    children::first_box(boxes, 0x65736473)
+    boxparts::first_box(boxes, 0x65736473)
 }
 
 pub fn write(mp4a: Mp4a, children: &[u8], out: &mut [u8]) -> Put

@@ -61,7 +61,7 @@ fn bytes_after(file: &[u8], run: Run, track: u32, from: u64) -> DataEnd
     ensures { λ r. ⌜ r ≡ endBy (from + bytesOfRun (now (file .entry)) track run) ⌝ }
 {
     if track == run.track {
-        return runs::reach(file, run, from);
+        return runsums::reach(file, run, from);
     }
     DataEnd::At(from)
 }

@@ -5,31 +5,22 @@ use mathlib.Core.List.{List, [], _∷_, _++_}
 use mathlib.Core.Bool.{true, false}
 use lib.IntN.{pos, negsuc}
 use Rattle.numbers.specs.Number.{be, bytes}
-use Rattle.numbers.specs.Field.{refusal, field, when}
+use Rattle.numbers.specs.Field.{field, when}
 use Rattle.signed.specs.Signed.{signed}
 use Rattle.layout.specs.Rule.{ruleOf}
 use Rattle.layout.specs.Read.{one, decode}
 use Rattle.layout.specs.Table.{cutOf}
 use Rattle.rounds.proofs.Example.{box}
 use Rattle.samples.specs.declared.Sample.{Sample}
-use Rattle.tfhd.specs.Tfhd.{tfhdOf}
-use Rattle.tfhd.specs.declared.Tfhd.{Tfhd}
-use Rattle.trex.specs.declared.Trex.{Trex}
-use Rattle.tfdt.specs.Tfdt.{tfdtOf}
-use Rattle.tfdt.specs.declared.Tfdt.{Tfdt}
 use Rattle.trun.specs.Trun.{optional, trunOf}
 use Rattle.trun.specs.declared.Trun.{Trun}
-use Rattle.runs.specs.Make.{baseOf, makeOf}
 use Rattle.runs.specs.Values.{ownOf, durationAt, sizeAt, flagsBy, flagsAt, syncBy}
 use Rattle.runs.specs.Samples.{sampleAt, runSamples, bytesIn, endOf, durationsIn, timeAfter}
 use Rattle.runs.specs.Lane.{left}
 use Rattle.runs.specs.declared.Run.{Run}
 use Rattle.runs.specs.declared.Lane.{Lane}
-use Rattle.runs.specs.declared.Made.the-variants.{Is, Refused}
 use Rattle.runs.specs.declared.DataEnd.the-variants.{At, Over}
 use Rattle.samples.specs.Lists as list
-use Rattle.tfhd.specs.declared.Found.the-variants as tfhd
-use Rattle.tfdt.specs.declared.Found.the-variants as tfdt
 use Rattle.trun.specs.declared.Found.the-variants as trun
 
 -- CASE 7: a traf whose tfdt is 9,000 and whose three samples last 3,000 each, as its bytes
@@ -37,10 +28,10 @@ use Rattle.trun.specs.declared.Found.the-variants as trun
 abbrev entries : List ℕ
 entries = bytes 4 3000 ++ bytes 4 10 ++ bytes 4 3000 ++ bytes 4 20 ++ bytes 4 3000 ++ bytes 4 30
 
-abbrev tfhd-bytes : List ℕ
+abbrev pub tfhd-bytes : List ℕ
 tfhd-bytes = box 0x74666864 0 0x20020 (bytes 4 7 ++ bytes 4 0x1_0000)
 
-abbrev tfdt-bytes : List ℕ
+abbrev pub tfdt-bytes : List ℕ
 tfdt-bytes = box 0x74666474 0 0 (bytes 4 9000)
 
 abbrev trun-bytes : List ℕ
@@ -50,25 +41,8 @@ trun-bytes = box 0x7472756e 0 0x305 (bytes 4 3 ++ bytes 4 200 ++ bytes 4 0x200_0
 abbrev pub file : List ℕ
 file = tfhd-bytes ++ tfdt-bytes ++ trun-bytes
 
-abbrev pub header : Tfhd
-header = record { version = 0; flags = 0x20020; «track_id» = 7; «base_data_offset» = 0; «sample_description_index» = 0; «default_sample_duration» = 0; «default_sample_size» = 0; «default_sample_flags» = 0x1_0000 }
-
-abbrev defaults : Trex
-defaults = record { version = 0; flags = 0; «track_id» = 7; «default_sample_description_index» = 1; «default_sample_duration» = 40; «default_sample_size» = 50; «default_sample_flags» = 60 }
-
-abbrev time : Tfdt
-time = record { version = 0; flags = 0; «base_media_decode_time» = 9000 }
-
-abbrev three : Trun
+abbrev pub three : Trun
 three = record { version = 0; flags = 0x305; «sample_count» = 3; «data_offset» = 200; «first_sample_flags» = 0x200_0000 }
-
-header-read : tfhdOf tfhd-bytes ≡ tfhd.Is header
-unfolding be bytes field when ruleOf one decode
-header-read = refl
-
-time-read : tfdtOf tfdt-bytes ≡ tfdt.Is time
-unfolding be bytes field when ruleOf one decode
-time-read = refl
 
 run-read : trunOf trun-bytes ≡ trun.Is three 24
 unfolding be bytes field when ruleOf one decode cutOf
@@ -77,14 +51,14 @@ run-read = refl
 abbrev pub run : Run
 run = record { track = 7; start = 1200; time = 9000; at = 60; trun = three; duration = 40; size = 50; flags = 0x1_0000 }
 
--- the moof begins at 1,000, where the header says that the base is: tfhd's flags, trex's duration and size
-made : makeOf header defaults time three 60 (baseOf header 1000 false 5000) ≡ Is run
-unfolding when signed
-made = refl
-
 -- sample n of a run at that place and time, and whether it is sync
 abbrev a : ℕ → ℕ → ℕ → ℕ → Sample
 a n offset size time = record { number = n; offset = offset; size = size; time = time; duration = 3000; composition = pos 0; sync = false }
+
+-- what the second sample says of itself
+own-second : ownOf file run 1 ≡ record { duration = 3000; size = 20; flags = 0; «composition_offset» = pos 0 }
+unfolding be bytes field when optional signed ownOf
+own-second = refl
 
 -- own durations and sizes beat tfhd's and trex's; the first sample is sync by its own flags, the others are not by tfhd's
 case-7 : runSamples file run 0 ≡ record { number = 1; offset = 1200; size = 10; time = 9000; duration = 3000; composition = pos 0; sync = true } ∷ a 2 1210 20 12000 ∷ a 3 1230 30 15000 ∷ []
@@ -99,59 +73,6 @@ case-7-next = refl
 case-7-end : endOf file run ≡ At 1260
 unfolding be bytes field when optional signed ownOf sizeAt bytesIn
 case-7-end = refl
-
--- BASE AND START
-
--- tfhd's own base (0x1) wins over 0x20000
-own-base : baseOf (record { version = 0; flags = 0x20001; «track_id» = 7; «base_data_offset» = 77; «sample_description_index» = 0; «default_sample_duration» = 0; «default_sample_size» = 0; «default_sample_flags» = 0 }) 1000 true 5000 ≡ 77
-unfolding when
-own-base = refl
-
-abbrev plain : ℕ → Tfhd
-plain flags = record { version = 0; flags = flags; «track_id» = 7; «base_data_offset» = 0; «sample_description_index» = 0; «default_sample_duration» = 4; «default_sample_size» = 5; «default_sample_flags» = 6 }
-
--- the first traf begins at the moof, a later one where the one before ends
-first-base : baseOf (plain 0) 1000 true 5000 ≡ 1000
-unfolding when
-first-base = refl
-
-later-base : baseOf (plain 0) 1000 false 5000 ≡ 5000
-unfolding when
-later-base = refl
-
-abbrev trun-of : ℕ → ℕ → Trun
-trun-of flags offset = record { version = 0; flags = flags; «sample_count» = 0; «data_offset» = offset; «first_sample_flags» = 0 }
-
-abbrev run-of : ℕ → ℕ → ℕ → Run
-run-of flags offset start = record { track = 7; start = start; time = 9000; at = 0; trun = trun-of flags offset; duration = 40; size = 50; flags = 60 }
-
--- no data offset: at the base
-no-offset : makeOf (plain 0) defaults time (trun-of 0 8) 0 5000 ≡ Is (run-of 0 8 5000)
-unfolding when signed
-no-offset = refl
-
--- a data offset of -8; and one that reaches below 0
-back : makeOf (plain 0) defaults time (trun-of 1 0xffff_fff8) 0 5000 ≡ Is (run-of 1 0xffff_fff8 4992)
-unfolding when signed
-back = refl
-
-below : makeOf (plain 0) defaults time (trun-of 1 0xffff_fff8) 0 7 ≡ Refused (refusal 9 0)
-unfolding when signed
-below = refl
-
--- above 2^64 - 1, though there are no samples
-above : makeOf (plain 0) defaults time (trun-of 1 8) 0 0xffff_ffff_ffff_fff8 ≡ Refused (refusal 9 0)
-unfolding when signed
-above = refl
-
-late : makeOf (plain 0) defaults (record { version = 1; flags = 0; «base_media_decode_time» = 0x8000_0000_0000_0000 }) (trun-of 0 0) 0 0 ≡ Refused (refusal 9 0)
-unfolding when signed
-late = refl
-
--- tfhd's duration, size and flags beat trex's
-by-header : makeOf (plain 0x38) defaults time (trun-of 0 0) 0 5000 ≡ Is (record { track = 7; start = 5000; time = 9000; at = 0; trun = trun-of 0 0; duration = 4; size = 5; flags = 6 })
-unfolding when signed
-by-header = refl
 
 -- VALUES
 

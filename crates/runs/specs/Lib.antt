@@ -1,4 +1,3 @@
-pub mod Make
 pub mod Values
 pub mod Samples
 pub mod Lane

@@ -67,7 +67,7 @@ pub fn entry(part: &[u8], i: u32) -> &[u8]
                 return &part[..0];
             }
             let list = entries(part);
-            children::nth_box(list, i)
+            boxparts::nth_box(list, i)
         }
         Found::Refused(_) => &part[..0],
     }

@@ -27,9 +27,9 @@ use Rattle.trun.specs.Trun.{trunOf}
 use Rattle.trun.specs.declared.Trun.{Trun}
 use Rattle.trun.specs.declared.Found as trun-found
 use Rattle.trun.specs.declared.Found.the-variants as trun-is
-use Rattle.runs.specs.Make.{baseOf, makeOf}
-use Rattle.runs.specs.declared.Made.{Made}
-use Rattle.runs.specs.declared.Made.the-variants.{Refused}
+use Rattle.runstarts.specs.Make.{baseOf, makeOf}
+use Rattle.runstarts.specs.declared.Made.{Made}
+use Rattle.runstarts.specs.declared.Made.the-variants.{Refused}
 use Rattle.trafs.specs.Trafs.{ofBox, bytesOf, trexBy, withTfhd, withTrex, withTfdt, withTrun, lacking, runOf}
 
 -- WHAT THE TABLES SAY OF A BOX

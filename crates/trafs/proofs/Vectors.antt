@@ -18,8 +18,8 @@ use Rattle.needed.specs.First.{first}
 use Rattle.needed.specs.Needed.{trexOf}
 use Rattle.inside.specs.Inside.{nextIn, child}
 use Rattle.runs.specs.declared.Run.{Run}
-use Rattle.runs.specs.declared.Made.{Made}
-use Rattle.runs.specs.declared.Made.the-variants.{Is, Refused}
+use Rattle.runstarts.specs.declared.Made.{Made}
+use Rattle.runstarts.specs.declared.Made.the-variants.{Is, Refused}
 use Rattle.trafs.specs.Trafs.{ofBox, bytesOf, runOf}
 
 -- a trex of track 7; then a traf's tfhd with these flags, of this track, its tfdt and its trun

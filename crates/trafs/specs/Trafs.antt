@@ -29,9 +29,9 @@ use Rattle.trun.specs.Trun.{trunOf}
 use Rattle.trun.specs.declared.Trun.{Trun}
 use Rattle.trun.specs.declared.Found as trun-found
 use Rattle.trun.specs.declared.Found.the-variants as trun-is
-use Rattle.runs.specs.Make.{baseOf, makeOf}
-use Rattle.runs.specs.declared.Made.{Made}
-use Rattle.runs.specs.declared.Made.the-variants.{Refused}
+use Rattle.runstarts.specs.Make.{baseOf, makeOf}
+use Rattle.runstarts.specs.declared.Made.{Made}
+use Rattle.runstarts.specs.declared.Made.the-variants.{Refused}
 
 -- what a column of the tables says of the box that is named p: 0 where there is none, as past the last row
 abbrev pub ofBox : List ℕ → ℕ → ℕ

@@ -8,7 +8,7 @@ ghost use Rattle.tfdt.specs.Tfdt.{tfdtOf};
 ghost use Rattle.trafs.specs.Trafs.{ofBox, bytesOf, trexBy, lacking, runOf};
 use numbers::Refusal;
 use places::kinds;
-use runs::Made;
+use runstarts::Made;
 
 const LAST: usize = 0xffff_ffff_ffff_ffff;
 
@@ -131,6 +131,6 @@ pub fn run(
             detail: 0,
         });
     }
-    let base = runs::base(h, moof, first, previous);
-    runs::make(h, x, d, m, start + place, base)
+    let base = runstarts::base(h, moof, first, previous);
+    runstarts::make(h, x, d, m, start + place, base)
 }

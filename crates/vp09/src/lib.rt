@@ -28,7 +28,7 @@ pub fn vpcc(part: &[u8]) -> &[u8]
     ensures { λ r. ⌜ now r ≡ vpccOf (now (part .entry)) ⌝ }
 {
     let boxes = visual::children(part, KIND);
-    children::first_box(boxes, 0x76706343)
+    boxparts::first_box(boxes, 0x76706343)
 }
 
 pub fn write(entry: Visual, children: &[u8], out: &mut [u8]) -> Put

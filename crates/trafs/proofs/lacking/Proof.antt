@@ -1,7 +1,7 @@
 use mathlib.Core.Path.{ap}
 use Prim.Native.Nat.{ℕ}
 use Rattle.numbers.specs.Field.{refusal}
-use Rattle.runs.specs.declared.Made.the-variants.{Refused}
+use Rattle.runstarts.specs.declared.Made.the-variants.{Refused}
 use borrow.Author.Needs.{needs}
 use Rattle.trafs.proofs.lacking.Statement.{statement}
 use Rattle.trafs.proofs.lacking.Tie as tie

@@ -1,0 +1,3 @@
+pub mod Starts
+mod Vectors
+mod Unique
