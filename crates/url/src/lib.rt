@@ -57,15 +57,6 @@ pub fn location(part: &[u8]) -> &[u8]
 pub fn write(url: Url, location: &[u8], out: &mut [u8]) -> Put
     ensures { λ r. ⌜ wrote r (now (out .exit)) ≡ urlIn url (now (location .entry)) (now (out .entry)) ⌝ }
 {
-    let v = [
-        url.version as u64,
-        url.flags as u64,
-        0,
-        0,
-        0,
-        0,
-        0,
-        0,
-    ];
+    let v = [url.version as u64, url.flags as u64, 0, 0, 0, 0, 0, 0];
     short::write::by(out, KIND, ROW, v, location)
 }
