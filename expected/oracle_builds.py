@@ -87,7 +87,7 @@ def compared(cases, ours, answers):
                 strange += 1
                 if strange <= 20:
                     print(f"NEW: {rust_builds.command(configuration, timescale, samples)}\n  {number}")
-            elif (rank := (len(numbers), len(samples))) < smallest.get(number, ((9, 99),))[0]:
+            elif (rank := (len(samples), len(numbers))) < smallest.get(number, ((builds.MOST + 1, 0),))[0]:
                 smallest[number] = rank, rust_builds.command(configuration, timescale, samples)
     for table in rust_builds.TABLES:
         by_class = {number: n for (one, number), n in sorted(met.items()) if one == table}
