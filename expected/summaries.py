@@ -52,13 +52,21 @@ def some(chance, bits):
     return chance.getrandbits(chance.randint(1, bits))
 
 
-def rows():
+def own():
     chance = random.Random(4)
-    made = CASES + [
+    return CASES + [
         (some(chance, 32), some(chance, 48), some(chance, 24), chance.getrandbits(32), some(chance, 32)) for _ in range(150)
     ]
-    whole = b"".join(value.to_bytes(width, "big") for row in made for value, width in zip(row, WIDTHS))
-    return whole + bytes(ROW - 1)  # a row that is cut: no line
+
+
+def row_bytes(some_rows):
+    return b"".join(value.to_bytes(width, "big") for row in some_rows for value, width in zip(row, WIDTHS))
+
+
+def rows():
+    """These, then those of expected/tracks.txt, then one that is cut, for which there is no line."""
+    import rust_tracks
+    return row_bytes(own() + [rust_tracks.row(track) for track, _, _ in rust_tracks.stored()]) + bytes(ROW - 1)
 
 
 def lines(data):

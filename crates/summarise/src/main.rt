@@ -97,7 +97,7 @@ fn print_rows(rows: &[u8]) {
 }
 
 fn main() {
-    let mut buffer = io::buffer();
+    let mut buffer = io::large_buffer();
     let got = io::read_full(STDIN_FILENO, &mut buffer);
     print_rows(&buffer[..got]);
 }
