@@ -24,23 +24,7 @@ pub enum Place {
 }
 
 // A box with no fields of its own.
-pub const ROW: [Field; 24] = [
-    Field::Nothing,
-    Field::Nothing,
-    Field::Nothing,
-    Field::Nothing,
-    Field::Nothing,
-    Field::Nothing,
-    Field::Nothing,
-    Field::Nothing,
-    Field::Nothing,
-    Field::Nothing,
-    Field::Nothing,
-    Field::Nothing,
-    Field::Nothing,
-    Field::Nothing,
-    Field::Nothing,
-    Field::Nothing,
+pub const ROW: [Field; 8] = [
     Field::Nothing,
     Field::Nothing,
     Field::Nothing,
@@ -94,7 +78,7 @@ fn whole_from(s: &[u8], from: usize) -> Judged
 pub fn first(part: &[u8], parent: u32, kind: u32) -> Child
     ensures { λ r. ⌜ r ≡ firstOf parent kind (now (part .entry)) ⌝ }
 {
-    let got = layout::read::by(part, parent, ROW);
+    let got = short::read::by(part, parent, ROW);
     if got.number != 0 {
         return Child::Refused(Refusal {
             number: got.number,
@@ -110,7 +94,7 @@ pub fn first(part: &[u8], parent: u32, kind: u32) -> Child
 pub fn whole(part: &[u8], parent: u32) -> Judged
     ensures { λ r. ⌜ r ≡ wholeOf parent (now (part .entry)) ⌝ }
 {
-    let got = layout::read::by(part, parent, ROW);
+    let got = short::read::by(part, parent, ROW);
     if got.number != 0 {
         return Judged::Wrong(Refusal {
             number: got.number,

@@ -22,7 +22,7 @@ pub enum Found {
 
 pub const KIND: u32 = 0x6d703461;
 
-pub const ROW: [Field; 24] = [
+pub const ROW: [Field; 8] = [
     Field::Reserved(6, 0),
     Field::Number(2),
     Field::Reserved(8, 0),
@@ -31,28 +31,12 @@ pub const ROW: [Field; 24] = [
     Field::Reserved(2, 0),
     Field::Reserved(2, 0),
     Field::Number(4),
-    Field::Nothing,
-    Field::Nothing,
-    Field::Nothing,
-    Field::Nothing,
-    Field::Nothing,
-    Field::Nothing,
-    Field::Nothing,
-    Field::Nothing,
-    Field::Nothing,
-    Field::Nothing,
-    Field::Nothing,
-    Field::Nothing,
-    Field::Nothing,
-    Field::Nothing,
-    Field::Nothing,
-    Field::Nothing,
 ];
 
 pub fn read(part: &[u8]) -> Found
     ensures { λ r. ⌜ r ≡ mp4aOf (now (part .entry)) ⌝ }
 {
-    let got = layout::read::by(part, KIND, ROW);
+    let got = short::read::by(part, KIND, ROW);
     if got.number != 0 {
         return Found::Refused(Refusal {
             number: got.number,
@@ -72,7 +56,7 @@ pub fn read(part: &[u8]) -> Found
 pub fn children(part: &[u8]) -> &[u8]
     ensures { λ r. ⌜ now r ≡ childrenOf (now (part .entry)) ⌝ }
 {
-    layout::read::rest(part, KIND, ROW)
+    short::read::rest(part, KIND, ROW)
 }
 
 // The first esds among them, as the part of the entry where it lies; no bytes where there is none, or where a fault comes
@@ -80,7 +64,7 @@ pub fn children(part: &[u8]) -> &[u8]
 pub fn esds(part: &[u8]) -> &[u8]
     ensures { λ r. ⌜ now r ≡ esdsOf (now (part .entry)) ⌝ }
 {
-    let boxes = layout::read::rest(part, KIND, ROW);
+    let boxes = short::read::rest(part, KIND, ROW);
     boxparts::first_box(boxes, 0x65736473)
 }
 
@@ -96,22 +80,6 @@ pub fn write(mp4a: Mp4a, children: &[u8], out: &mut [u8]) -> Put
         0,
         0,
         0,
-        0,
-        0,
-        0,
-        0,
-        0,
-        0,
-        0,
-        0,
-        0,
-        0,
-        0,
-        0,
-        0,
-        0,
-        0,
-        0,
     ];
-    layout::write::by(out, KIND, ROW, v, children)
+    short::write::by(out, KIND, ROW, v, children)
 }

@@ -9,12 +9,12 @@ use put::Put;
 pub fn content(part: &[u8], parent: u32) -> &[u8]
     ensures { λ r. ⌜ now r ≡ contentOf parent (now (part .entry)) ⌝ }
 {
-    layout::read::rest(part, parent, ROW)
+    short::read::rest(part, parent, ROW)
 }
 
 // A box of this type around the children's bytes.
 pub fn around(children: &[u8], parent: u32, out: &mut [u8]) -> Put
     ensures { λ r. ⌜ wrote r (now (out .exit)) ≡ containerIn parent (now (children .entry)) (now (out .entry)) ⌝ }
 {
-    layout::write::by(out, parent, ROW, [0; 24], children)
+    short::write::by(out, parent, ROW, [0; 8], children)
 }

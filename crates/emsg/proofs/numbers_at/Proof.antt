@@ -78,27 +78,4 @@ returns-5 c = has by32 4 _ _ _ (c .before .before .before .before .before .befor
 pub numbers-at-spec : {M : Type 1} → statement M
 numbers-at-spec =
     tie.close
-    (tie.spec
-    u32-at-requires
-    enum-known-timescale
-    enum-told
-    returns
-    add-number-at
-    number-at-requires
-    enum-known-time
-    enum-told-2
-    add-t13
-    returns-2
-    add-next
-    add-next-2
-    u32-at-requires-2
-    enum-known-duration
-    enum-told-3
-    returns-3
-    add-u32-at
-    u32-at-requires-3
-    enum-known-id
-    enum-told-4
-    add-t18
-    returns-4
-    returns-5)
+    (tie.spec u32-at-requires enum-known-timescale enum-told returns add-number-at number-at-requires enum-known-time enum-told-2 add-t13 returns-2 add-next add-next-2 u32-at-requires-2 enum-known-duration enum-told-3 returns-3 add-u32-at u32-at-requires-3 enum-known-id enum-told-4 add-t18 returns-4 returns-5)

@@ -47,16 +47,4 @@ returns-3 c = ap (stringsLast (c .before .before .before .before .before .before
 pub numbers-first-spec : {M : Type 1} → statement M
 numbers-first-spec =
     tie.close
-    (tie.spec
-    numbers-at-requires
-    enum-known-q
-    enum-known-timescale
-    add-from
-    strings-at-requires
-    enum-known-q-2
-    enum-known-scheme-end
-    add-t19
-    add-t20
-    returns
-    returns-2
-    returns-3)
+    (tie.spec numbers-at-requires enum-known-q enum-known-timescale add-from strings-at-requires enum-known-q-2 enum-known-scheme-end add-t19 add-t20 returns returns-2 returns-3)

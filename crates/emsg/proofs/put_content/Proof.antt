@@ -37,14 +37,4 @@ returns-2 c = late-put (c .before .before .before .before .before .before .befor
 pub put-content-spec : {M : Type 1} → statement M
 put-content-spec =
     tie.close
-    (tie.spec
-    put-strings-requires
-    put-numbers-requires
-    part-requires
-    same-length
-    returns
-    put-numbers-requires-2
-    put-strings-requires-2
-    part-requires-2
-    same-length-2
-    returns-2)
+    (tie.spec put-strings-requires put-numbers-requires part-requires same-length returns put-numbers-requires-2 put-strings-requires-2 part-requires-2 same-length-2 returns-2)

@@ -40,15 +40,4 @@ returns c = (numbers-put (c .before .before .before .before .before .before .bef
 pub put-numbers-spec : {M : Type 1} → statement M
 put-numbers-spec =
     tie.close
-    (tie.spec
-    u32-at-requires
-    add-number
-    number-requires
-    add-next
-    add-next-2
-    u32-at-requires-2
-    add-u32-at
-    u32-at-requires-3
-    add-result
-    same-length
-    returns)
+    (tie.spec u32-at-requires add-number number-requires add-next add-next-2 u32-at-requires-2 add-u32-at u32-at-requires-3 add-result same-length returns)

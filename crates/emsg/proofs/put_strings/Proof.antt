@@ -40,15 +40,4 @@ returns c = (strings-put (c .before .before .before .before .before .before .bef
 pub put-strings-spec : {M : Type 1} → statement M
 put-strings-spec =
     tie.close
-    (tie.spec
-    part-requires
-    add-first
-    u8-at-requires
-    add-part
-    part-requires-2
-    add-second
-    add-second-2
-    u8-at-requires-2
-    add-result
-    same-length
-    returns)
+    (tie.spec part-requires add-first u8-at-requires add-part part-requires-2 add-second add-second-2 u8-at-requires-2 add-result same-length returns)

@@ -49,15 +49,4 @@ returns-3 c = late-told (c .before .before .before .before .before .before .befo
 pub read-spec : {M : Type 1} → statement M
 read-spec =
     tie.close
-    (tie.spec
-    by-requires
-    returns
-    array-read-flags
-    cast-flags
-    array-read-if2
-    slice-aggregate-strings-first
-    strings-first-requires
-    returns-2
-    slice-aggregate-numbers-first
-    numbers-first-requires
-    returns-3)
+    (tie.spec by-requires returns array-read-flags cast-flags array-read-if2 slice-aggregate-strings-first strings-first-requires returns-2 slice-aggregate-numbers-first numbers-first-requires returns-3)

@@ -39,14 +39,4 @@ returns-3 c = ap (secondOf (c .before .before .before .before .before .scheme-en
 pub strings-at-spec : {M : Type 1} → statement M
 strings-at-spec =
     tie.close
-    (tie.spec
-    text-end-requires
-    enum-told
-    enum-known-scheme-end
-    add-value
-    text-end-requires-2
-    enum-told-2
-    enum-known-value-end
-    returns
-    returns-2
-    returns-3)
+    (tie.spec text-end-requires enum-told enum-known-scheme-end add-value text-end-requires-2 enum-told-2 enum-known-value-end returns returns-2 returns-3)

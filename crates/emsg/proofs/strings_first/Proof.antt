@@ -46,16 +46,4 @@ returns-3 c = ap (numbersLast (c .before .before .before .before .before .before
 pub strings-first-spec : {M : Type 1} → statement M
 strings-first-spec =
     tie.close
-    (tie.spec
-    strings-at-requires
-    enum-known-q
-    enum-known-scheme-end
-    add-from
-    numbers-at-requires
-    enum-known-q-2
-    enum-known-timescale
-    add-t19
-    add-t20
-    returns
-    returns-2
-    returns-3)
+    (tie.spec strings-at-requires enum-known-q enum-known-scheme-end add-from numbers-at-requires enum-known-q-2 enum-known-timescale add-t19 add-t20 returns returns-2 returns-3)

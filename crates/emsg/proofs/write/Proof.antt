@@ -54,19 +54,4 @@ returns-6 c = all-put (c .before .before .before .before .before .before .before
 pub write-spec : {M : Type 1} → statement M
 write-spec =
     tie.close
-    (tie.spec
-    is-sound-requires
-    returns
-    returns-2
-    returns-3
-    fixed-requires
-    capped-requires
-    capped-requires-2
-    capped-requires-3
-    returns-4
-    returns-5
-    write-requires
-    write-requires-2
-    put-content-requires
-    same-length
-    returns-6)
+    (tie.spec is-sound-requires returns returns-2 returns-3 fixed-requires capped-requires capped-requires-2 capped-requires-3 returns-4 returns-5 write-requires write-requires-2 put-content-requires same-length returns-6)

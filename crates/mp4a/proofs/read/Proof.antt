@@ -16,33 +16,33 @@ by-requires c κs = search needs
 returns : tie.Need-returns
 returns c = told-no Is Refused from _ _ (c .before .before .by .ensures) (c .if1 .taken)
 
-array-read-t33 : tie.Need-array-read-t33
-array-read-t33 c = search needs
+array-read-t17 : tie.Need-array-read-t17
+array-read-t17 c = search needs
 
-cast-t34 : tie.Need-cast-t34
+cast-t18 : tie.Need-cast-t18
 unfolding limit most ruleOf when
-cast-t34 c = omega (arith, fits kind fields (c .before .before .before .before .before .args .part .now) 0 65535 _ (c .before .before .before .by .ensures) refl)
+cast-t18 c = omega (arith, fits kind fields (c .before .before .before .before .before .args .part .now) 0 65535 _ (c .before .before .before .by .ensures) refl)
 
-array-read-t37 : tie.Need-array-read-t37
-array-read-t37 c = search needs
+array-read-t21 : tie.Need-array-read-t21
+array-read-t21 c = search needs
 
-cast-t38 : tie.Need-cast-t38
+cast-t22 : tie.Need-cast-t22
 unfolding limit most ruleOf when
-cast-t38 c = omega (arith, fits kind fields (c .before .before .before .before .before .args .part .now) 1 65535 _ (c .before .before .before .by .ensures) refl)
+cast-t22 c = omega (arith, fits kind fields (c .before .before .before .before .before .args .part .now) 1 65535 _ (c .before .before .before .by .ensures) refl)
 
-array-read-t41 : tie.Need-array-read-t41
-array-read-t41 c = search needs
+array-read-t25 : tie.Need-array-read-t25
+array-read-t25 c = search needs
 
-cast-t42 : tie.Need-cast-t42
+cast-t26 : tie.Need-cast-t26
 unfolding limit most ruleOf when
-cast-t42 c = omega (arith, fits kind fields (c .before .before .before .before .before .args .part .now) 2 65535 _ (c .before .before .before .by .ensures) refl)
+cast-t26 c = omega (arith, fits kind fields (c .before .before .before .before .before .args .part .now) 2 65535 _ (c .before .before .before .by .ensures) refl)
 
-array-read-t45 : tie.Need-array-read-t45
-array-read-t45 c = search needs
+array-read-t29 : tie.Need-array-read-t29
+array-read-t29 c = search needs
 
-cast-t46 : tie.Need-cast-t46
+cast-t30 : tie.Need-cast-t30
 unfolding limit most ruleOf when
-cast-t46 c = omega (arith, fits kind fields (c .before .before .before .before .before .args .part .now) 3 4294967295 _ (c .before .before .before .by .ensures) refl)
+cast-t30 c = omega (arith, fits kind fields (c .before .before .before .before .before .args .part .now) 3 4294967295 _ (c .before .before .before .by .ensures) refl)
 
 returns-2 : tie.Need-returns-2
 returns-2 c = told-is Is Refused from _ _ (c .before .before .before .by .ensures) (c .before .if1 .left)
@@ -50,15 +50,4 @@ returns-2 c = told-is Is Refused from _ _ (c .before .before .before .by .ensure
 pub read-spec : {M : Type 1} → statement M
 read-spec =
     tie.close
-    (tie.spec
-    by-requires
-    returns
-    array-read-t33
-    cast-t34
-    array-read-t37
-    cast-t38
-    array-read-t41
-    cast-t42
-    array-read-t45
-    cast-t46
-    returns-2)
+    (tie.spec by-requires returns array-read-t17 cast-t18 array-read-t21 cast-t22 array-read-t25 cast-t26 array-read-t29 cast-t30 returns-2)
