@@ -38,7 +38,7 @@ fn channels(configuration: u8) -> u16 {
 
 fn streamed(entry: mp4a::Mp4a, stream: esds::Esds, info: &[u8], out: &mut [u8]) {
     let mut child = io::buffer();
-    match esds::write(stream, &info[..0], info, &[2], &mut child) {
+    match esds_write::write(stream, &info[..0], info, &[2], &mut child) {
         Put::Refused(q) => say::refused(q),
         Put::Done(n) => {
             let put = mp4a::write(entry, say::bytes_at(&child, 0, n), out);

@@ -52,7 +52,7 @@ pub(crate) fn tell(kind: u32, part: &[u8], out: &mut [u8]) -> bool {
             if b.has_sl {
                 say::bytes(sl);
             }
-            let put = esds::write(b, esds_parts::url(part), esds_parts::info(part), sl, out);
+            let put = esds_write::write(b, esds_parts::url(part), esds_parts::info(part), sl, out);
             say::written(put, part, out);
         }
     }

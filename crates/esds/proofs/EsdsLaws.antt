@@ -47,7 +47,7 @@ use Rattle.esds.specs.declared.Found.the-variants.{Is, Refused}
 use Rattle.esds.specs.declared.Parts.{Parts}
 use Rattle.esds.specs.declared.Tail.{Tail}
 use Rattle.esds.specs.declared.Tail.the-variants as tail
-use Rattle.esds.proofs.Puts.{and-true, sounds, Sound}
+use Rattle.esds.proofs.Sounds.{and-true, sounds, Sound}
 
 nothing : (x : List ℕ) → length x ≡ 0 → [] ≡ x
 nothing [] e = refl

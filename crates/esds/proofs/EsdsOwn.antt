@@ -57,7 +57,7 @@ use Rattle.esds.specs.declared.Found.the-variants.{Is, Refused}
 use Rattle.esds.specs.declared.Parts.{Parts}
 use Rattle.esds.specs.declared.Tail.{Tail}
 use Rattle.esds.specs.declared.Tail.the-variants as tail
-use Rattle.esds.proofs.Puts.{length-content}
+use Rattle.esds.proofs.Sounds.{length-content}
 use Rattle.esds.proofs.EsdsLaws.{esds-back}
 
 -- HOW MANY BYTES ARE NEEDED, of parts with so many bytes

@@ -1,6 +1,6 @@
 pub mod Cases
 pub mod Contents
-pub mod Puts
+pub mod Sounds
 pub mod EsdsLaws
 pub mod EsdsOwn
 mod Unique

@@ -1,9 +1,9 @@
 use native.Mathlib.Omega.{arith}
 use Rattle.descriptor.proofs.Laws.{size-least}
-use Rattle.esds.proofs.Puts.{absent-empty, absent-full, config-unsound, config-long, config-sized}
+use Rattle.esds_write.proofs.Puts.{absent-empty, absent-full, config-unsound, config-long, config-sized}
 use borrow.Author.Needs.{needs}
-use Rattle.esds.proofs.decoder_size.Statement.{statement}
-use Rattle.esds.proofs.decoder_size.Tie as tie
+use Rattle.esds_write.proofs.decoder_size.Statement.{statement}
+use Rattle.esds_write.proofs.decoder_size.Tie as tie
 
 enum-told : tie.Need-enum-told
 enum-told c = search needs

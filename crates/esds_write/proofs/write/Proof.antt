@@ -1,10 +1,10 @@
 use Prim.Native.Nat.{_+_}
 use native.Mathlib.Omega.{arith}
 use Rattle.descriptor.proofs.Laws.{size-least}
-use Rattle.esds.proofs.Puts.{no-fields, no-decoder, no-sl, sum-is, first-is, second-is, too-long, is-sound, long-flags, all-room, too-small, box-long, all-put}
+use Rattle.esds_write.proofs.Puts.{no-fields, no-decoder, no-sl, sum-is, first-is, second-is, too-long, is-sound, long-flags, all-room, too-small, box-long, all-put}
 use borrow.Author.Needs.{needs}
-use Rattle.esds.proofs.write.Statement.{statement}
-use Rattle.esds.proofs.write.Tie as tie
+use Rattle.esds_write.proofs.write.Statement.{statement}
+use Rattle.esds_write.proofs.write.Tie as tie
 
 size-requires : tie.Need-size-requires
 size-requires c κs = search needs

@@ -1,7 +1,7 @@
-use Rattle.esds.proofs.Puts.{sl-put, no-sl-put}
+use Rattle.esds_write.proofs.Puts.{sl-put, no-sl-put}
 use borrow.Author.Needs.{needs}
-use Rattle.esds.proofs.put_sl.Statement.{statement}
-use Rattle.esds.proofs.put_sl.Tie as tie
+use Rattle.esds_write.proofs.put_sl.Statement.{statement}
+use Rattle.esds_write.proofs.put_sl.Tie as tie
 
 put-requires : tie.Need-put-requires
 put-requires c κs = search needs

@@ -1,10 +1,10 @@
 use native.Mathlib.Omega.{arith}
 use lib.ListN.{length}
 use Rattle.descriptor.proofs.Laws.{size-least}
-use Rattle.esds.proofs.Puts.{sl-long, sl-sized, sl-empty, sl-full}
+use Rattle.esds_write.proofs.Puts.{sl-long, sl-sized, sl-empty, sl-full}
 use borrow.Author.Needs.{needs}
-use Rattle.esds.proofs.sl_size.Statement.{statement}
-use Rattle.esds.proofs.sl_size.Tie as tie
+use Rattle.esds_write.proofs.sl_size.Statement.{statement}
+use Rattle.esds_write.proofs.sl_size.Tie as tie
 
 returns : tie.Need-returns
 returns c = sl-long (c .before .before .before .args .there) (c .before .before .before .args .sl .now) (c .before .if1 .taken) (c .if2 .taken)

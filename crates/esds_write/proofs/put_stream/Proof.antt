@@ -1,10 +1,11 @@
 use native.Mathlib.Omega.{arith}
 use Rattle.descriptors.proofs.Puts.{same-long}
 use Rattle.esds.specs.Esds.{decoderBytes}
-use Rattle.esds.proofs.Puts.{sounds, stream-room, stream-long, stream-put}
+use Rattle.esds.proofs.Sounds.{sounds}
+use Rattle.esds_write.proofs.Puts.{stream-room, stream-long, stream-put}
 use borrow.Author.Needs.{needs}
-use Rattle.esds.proofs.put_stream.Statement.{statement}
-use Rattle.esds.proofs.put_stream.Tie as tie
+use Rattle.esds_write.proofs.put_stream.Statement.{statement}
+use Rattle.esds_write.proofs.put_stream.Tie as tie
 
 length-size-requires : tie.Need-length-size-requires
 length-size-requires c κs = search needs

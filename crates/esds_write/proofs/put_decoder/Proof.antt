@@ -1,8 +1,8 @@
 use native.Mathlib.Omega.{arith}
-use Rattle.esds.proofs.Puts.{never-put, decoder-room, decoder-put}
+use Rattle.esds_write.proofs.Puts.{never-put, decoder-room, decoder-put}
 use borrow.Author.Needs.{needs}
-use Rattle.esds.proofs.put_decoder.Statement.{statement}
-use Rattle.esds.proofs.put_decoder.Tie as tie
+use Rattle.esds_write.proofs.put_decoder.Statement.{statement}
+use Rattle.esds_write.proofs.put_decoder.Tie as tie
 
 enum-told : tie.Need-enum-told
 enum-told c = search needs

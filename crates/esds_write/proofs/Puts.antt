@@ -9,7 +9,7 @@ use native.Mathlib.Omega.{arith}
 use lib.ListN.{length, drop, length-append}
 use lib.Seq.{sets, sets-eq}
 use lib.Dec.{eqb, ltb}
-use borrow.Author.Tests.{lt-ltb, le-ltb, ltb-true, eq-eqb, ne-eqb, eqb-true}
+use borrow.Author.Tests.{lt-ltb, le-ltb, ltb-true, eq-eqb, ne-eqb}
 use Rattle.numbers.specs.Number.{bytes}
 use Rattle.numbers.specs.Field.{when, refusal}
 use Rattle.numbers.specs.declared.Refusal.{Refusal}
@@ -38,14 +38,11 @@ use Rattle.decoderconfig.proofs.Puts.{config-put}
 use Rattle.esfields.specs.EsFields.{fieldBytes, fieldsIn}
 use Rattle.esfields.specs.EsFields as es
 use Rattle.esfields.proofs.Puts.{fields-in}
 use Rattle.esds.specs.Esds.{kind, fields, decoderBytes, slBytes, contentBytes, decoderSound, slSound, decoderSize, slSize, sound, esdsIn}
 use Rattle.esds.specs.declared.Esds.{Esds}
 use Rattle.esds.specs.declared.Decoder.{Decoder}
 use Rattle.esds.specs.declared.Decoder.the-variants as decoder
-
-pub and-true : (a b : Bool) → a && b ≡ true → (a ≡ true) × (b ≡ true)
-and-true true b h = (refl, h)
-and-true false b h = let z : _≡_ {A = ℕ} 0 1 = cc in absurd (omega arith)
+use Rattle.esds.proofs.Sounds.{and-true, sounds, length-content}
 
 both-true : (a b : Bool) → a ≡ true → b ≡ true → a && b ≡ true
 both-true a b p q = simp (p, q)
@@ -180,42 +177,21 @@ regroup : (a b c d : List ℕ) → a ++ b ++ c ++ d ≡ a ++ (b ++ c ++ d)
 regroup a b c d = simp append-assoc
 
 module _ (m : Esds) (url info sl : List ℕ) where
-  pub record Sound : Type 0 where
-    pub fields-ok : es.sound (m .stream) url ≡ true
-    pub decoder-ok : decoderSound (m .decoder) info ≡ true
-    pub sl-ok : slSound (m .«has_sl») sl ≡ true
-    pub small : length (contentBytes m url info sl) < 128 ^ 4
-
-  pub sounds : sound m url info sl ≡ true → Sound
-  sounds h =
-      let a = es.sound (m .stream) url in
-      let b = decoderSound (m .decoder) info in
-      let c = slSound (m .«has_sl») sl in
-      let d = ltb (length (contentBytes m url info sl)) (128 ^ 4) in
-      let p = and-true (a && b && c) d h in
-      let q = and-true (a && b) c (p .0) in
-      let r = and-true a b (q .0) in
-      record { fields-ok = r .0; decoder-ok = r .1; sl-ok = q .1; small = ltb-true (length (contentBytes m url info sl)) (128 ^ 4) (p .1) }
-
-  pub length-content : length (contentBytes m url info sl) ≡ length (fieldBytes (m .stream) url) + length (decoderBytes (m .decoder) info) + length (slBytes (m .«has_sl») sl)
-  length-content =
-      omega (arith, length-append (fieldBytes (m .stream) url ++ decoderBytes (m .decoder) info) (slBytes (m .«has_sl») sl), length-append (fieldBytes (m .stream) url) (decoderBytes (m .decoder) info))
-
   module _ (ok : sound m url info sl ≡ true) (n first second w : ℕ) (en : n ≡ length (contentBytes m url info sl)) (e1 : first ≡ length (fieldBytes (m .stream) url))
       (e2 : second ≡ length (decoderBytes (m .decoder) info)) (ew : w ≡ sizeFor n) (out : List ℕ)
       (room : 12 + length (descriptorBytes 3 (contentBytes m url info sl)) ≤ length out) where
     pub stream-room : 13 + w + first + second + length (slBytes (m .«has_sl») sl) ≤ length out
-    stream-room = omega (arith, room, length-descriptor 3 (contentBytes m url info sl), length-content, ew, ap sizeFor en, e1, e2)
+    stream-room = omega (arith, room, length-descriptor 3 (contentBytes m url info sl), length-content m url info sl, ew, ap sizeFor en, e1, e2)
 
     pub small-enough : n < 128 ^ 4
-    small-enough = omega (arith, en, sounds ok .small)
+    small-enough = omega (arith, en, sounds m url info sl ok .small)
 
     -- nothing grows
     pub stream-long : (b1 b2 : List ℕ) (p q : Put) → wrote p b1 ≡ headIn 3 n 12 out → wrote q b2 ≡ fieldsIn (m .stream) url (13 + w) b1 → length b2 ≡ length out
     stream-long b1 b2 p q f1 f2 =
         let g1 : b1 ≡ sets out 12 (headBytes 3 n) = head-put 3 n 12 out b1 p small-enough (omega (arith, stream-room, ew)) f1 in
         let l1 = same-long out b1 (headBytes 3 n) 12 g1 in
-        let g2 : b2 ≡ sets b1 (13 + w) (fieldBytes (m .stream) url) = fields-in (m .stream) url (13 + w) b1 b2 q (sounds ok .fields-ok) (omega (arith, stream-room, l1, e1)) f2 in
+        let g2 : b2 ≡ sets b1 (13 + w) (fieldBytes (m .stream) url) = fields-in (m .stream) url (13 + w) b1 b2 q (sounds m url info sl ok .fields-ok) (omega (arith, stream-room, l1, e1)) f2 in
         same-long b1 b2 (fieldBytes (m .stream) url) (13 + w) g2 ∙ l1
 
     pub stream-put : (b1 b2 b3 b4 : List ℕ) (p q : Put) → wrote p b1 ≡ headIn 3 n 12 out → wrote q b2 ≡ fieldsIn (m .stream) url (13 + w) b1 →
@@ -229,7 +205,7 @@ module _ (m : Esds) (url info sl : List ℕ) where
         let lh = length-head 3 n in
         let g1 : b1 ≡ sets out 12 head = head-put 3 n 12 out b1 p small-enough (omega (arith, stream-room, ew)) f1 in
         let l1 = same-long out b1 head 12 g1 in
-        let g2 : b2 ≡ sets b1 (13 + w) x1 = fields-in (m .stream) url (13 + w) b1 b2 q (sounds ok .fields-ok) (omega (arith, stream-room, l1, e1)) f2 in
+        let g2 : b2 ≡ sets b1 (13 + w) x1 = fields-in (m .stream) url (13 + w) b1 b2 q (sounds m url info sl ok .fields-ok) (omega (arith, stream-room, l1, e1)) f2 in
         let h2 : b2 ≡ sets out 12 (head ++ x1) = more out b1 b2 head x1 12 (13 + w) g1 g2 (omega (arith, lh, ew)) in
         let h3 : b3 ≡ sets out 12 (head ++ x1 ++ x2) = more out b2 b3 (head ++ x1) x2 12 (13 + w + first) h2 f3 (omega (arith, lh, ew, e1, length-append head x1)) in
         let h4 : b4 ≡ sets out 12 (head ++ x1 ++ x2 ++ x3) =

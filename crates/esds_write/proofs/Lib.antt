@@ -1,0 +1,2 @@
+mod Puts
+mod Unique
