@@ -16,7 +16,7 @@ use numbers::U32;
 use samples::Located;
 use samples::Sample;
 use stbl::Found;
-use stbl::Places;
+use tableboxes::Places;
 use tables::Track;
 
 // How many samples are told of a track, and how many are looked up behind them.
@@ -170,7 +170,7 @@ fn print_refused(number: u32, detail: usize) {
 }
 
 fn list_stbl(part: &[u8]) {
-    match stbl::find(part) {
+    match tableboxes::find(part) {
         Places::Refused(q) => print_refused(q.number, q.detail),
         Places::Are(boxes) => match stbl::track(part, boxes) {
             Found::Refused(q) => print_refused(q.number, q.detail),

@@ -5,7 +5,7 @@ use libc::STDIN_FILENO;
 use libc::STDOUT_FILENO;
 use lookup::Synced;
 use samples::Listed;
-use stbl::Places;
+use tableboxes::Places;
 use tables::Track;
 
 // The most samples of a track.
@@ -107,7 +107,7 @@ fn rounds(file: &[u8], track: Track) {
 }
 
 fn measure(stbl: &[u8]) {
-    let Places::Are(boxes) = stbl::find(stbl) else {
+    let Places::Are(boxes) = tableboxes::find(stbl) else {
         io::write_all(STDOUT_FILENO, b"no stbl\n");
         return;
     };

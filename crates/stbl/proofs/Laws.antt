@@ -8,8 +8,7 @@ use Rattle.numbers.specs.Field.{refusal}
 use Rattle.numbers.specs.declared.Refusal.{Refusal}
 use Rattle.rows.specs.declared.Judged.{Judged}
 use Rattle.rows.specs.declared.Judged.the-variants.{Fine, Wrong}
-use Rattle.stbl.specs.Stbl.{readAt, sttsAt, cttsAt, stscAt, stszAt, stcoAt, co64At, stssAt, laterOf, chunksAt, readAll, firstWrong, faults, lacks, entriesIn, tableIn, optionalIn, isThere, built, trackOf, spanOf, boxesIn}
-use Rattle.places.specs.Kinds as kinds
+use Rattle.stbl.specs.Stbl.{readAt, sttsAt, cttsAt, stscAt, stszAt, stcoAt, co64At, stssAt, laterOf, chunksAt, readAll, firstWrong, faults, lacks, entriesIn, tableIn, optionalIn, isThere, built, trackOf}
 use Rattle.tables.specs.declared.Table.{Table}
 use Rattle.tables.specs.declared.Optional.{Optional}
 use Rattle.tables.specs.declared.Track.{Track}
@@ -66,11 +65,6 @@ pub track-built : (r : Readings) (wide : Bool) (x1 x3 : Table) (x2 x6 : Optional
     x5 ≡ entriesIn (r .chunks) → x6 ≡ optionalIn (r .stss) →
     _≡_ {A = Track} (record { stts = x1; ctts = x2; stsc = x3; stsz = record { at = x4 .at; count = x4 .count; common = x4 .common }; stco = record { at = x5 .at; count = x5 .count; wide = wide }; stss = x6 }) (built r wide)
 track-built r wide x1 x3 x2 x6 x4 x5 e1 e2 e3 e4 e5 e6 = cc
-
-pub all-found : (p : List ℕ) (x1 x2 x3 x4 x5 x6 x7 : Span) → x1 ≡ spanOf kinds.stts p → x2 ≡ spanOf kinds.ctts p → x3 ≡ spanOf kinds.stsc p → x4 ≡ spanOf kinds.stsz p → x5 ≡ spanOf kinds.stco p →
-    x6 ≡ spanOf kinds.co64 p → x7 ≡ spanOf kinds.stss p →
-    _≡_ {A = Boxes} (record { stts = x1; ctts = x2; stsc = x3; stsz = x4; stco = x5; co64 = x6; stss = x7 }) (boxesIn p)
-all-found p x1 x2 x3 x4 x5 x6 x7 e1 e2 e3 e4 e5 e6 e7 = cc
 
 -- THE TRACK
 

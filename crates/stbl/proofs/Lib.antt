@@ -1,3 +1,3 @@
 mod Laws
-mod Vectors
+pub mod Vectors
 mod Unique

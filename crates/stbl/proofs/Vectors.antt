@@ -6,22 +6,20 @@ use Prim.Native.Nat.{ℕ, _+_}
 use Rattle.numbers.specs.Number.{be, bytes}
 use Rattle.numbers.specs.Field.{refusal, field, when}
 use Rattle.signed.specs.Signed.{signed}
-use Rattle.places.specs.Kinds.{stbl, stts, ctts, stsc, stsz, stco, co64, stss, mdat}
+use Rattle.places.specs.Kinds.{stbl, stts, ctts, stsc, stsz, stco, co64, stss}
 use Rattle.layout.specs.Rule.{ruleOf}
 use Rattle.layout.specs.Read.{one, decode}
 use Rattle.layout.specs.Table.{cutOf}
 use Rattle.rows.specs.Rows.{widthOf, allowedOf, lastOf, cellsOf, entriesOf}
-use Rattle.children.specs.Children.{rowOf, firstIn, wholeIn}
 use Rattle.children.proofs.Example.{of}
 use Rattle.samples.specs.declared.Sample.{Sample}
 use Rattle.tables.specs.Tables.{pairAt, groupAt, offsetAt, sizeAt, numberAt}
 use Rattle.tables.specs.Samples.{samplesOf}
 use Rattle.tables.specs.declared.Track.{Track}
 use Rattle.tables.specs.declared.Optional.the-variants as optional
-use Rattle.stbl.specs.Stbl.{trackOf, boxesOf}
+use Rattle.stbl.specs.Stbl.{trackOf}
 use Rattle.stbl.specs.declared.Boxes.{Boxes}
 use Rattle.stbl.specs.declared.Span.the-variants.{Absent, At}
-use Rattle.stbl.specs.declared.Places.the-variants as places
 use Rattle.stbl.specs.declared.Found.the-variants.{Is, Refused}
 
 -- numbers of four bytes
@@ -44,15 +42,11 @@ narrow = of stco (words (0 ∷ 4 ∷ 48 ∷ 78 ∷ 148 ∷ 198 ∷ []))
 abbrev wide : List ℕ
 wide = of co64 (words (0 ∷ 1 ∷ 1 ∷ 0 ∷ []))
 
-abbrev case-two : List ℕ
+abbrev pub case-two : List ℕ
 case-two = of stbl (times ++ groups ++ sizes ++ narrow)
 
-abbrev case-boxes : Boxes
+abbrev pub case-boxes : Boxes
 case-boxes = record { stts = At 8 32; ctts = Absent; stsc = At 40 40; stsz = At 80 44; stco = At 124 32; co64 = Absent; stss = Absent }
-
-case-found : boxesOf case-two ≡ places.Are case-boxes
-unfolding be bytes field when ruleOf one decode rowOf firstIn wholeIn
-case-found = refl
 
 abbrev case-track : Track
 case-track = record {
@@ -124,16 +118,3 @@ cut-off = refl
 behind : trackOf case-two (record { stts = At 500 30; ctts = Absent; stsc = Absent; stsz = Absent; stco = Absent; co64 = Absent; stss = Absent }) ≡ Refused (refusal 1 500)
 unfolding be bytes field when ruleOf one decode cutOf widthOf allowedOf lastOf cellsOf entriesOf
 behind = refl
-
--- an stbl: its boxes in any order, the first of each type, others passed over; a child that passes its end; another type
-found-any : boxesOf (of stbl (of mdat [] ++ of stss [] ++ of co64 [] ++ of stss (0 ∷ []))) ≡ places.Are (record { stts = Absent; ctts = Absent; stsc = Absent; stsz = Absent; stco = Absent; co64 = At 24 8; stss = At 16 8 })
-unfolding be bytes field when ruleOf one decode rowOf firstIn wholeIn
-found-any = refl
-
-found-cut : boxesOf (of stbl (bytes 4 9 ++ bytes 4 stts)) ≡ places.Refused (refusal 1 8)
-unfolding be bytes field when ruleOf one decode rowOf firstIn wholeIn
-found-cut = refl
-
-found-other : boxesOf (of mdat []) ≡ places.Refused (refusal 8 4)
-unfolding be bytes field when ruleOf one decode rowOf firstIn wholeIn
-found-other = refl

@@ -9,16 +9,10 @@ use lib.Dec.{ltb, leb}
 use Rattle.numbers.specs.Field.{when, refusal}
 use Rattle.numbers.specs.declared.Refusal.{Refusal}
 use Rattle.parts.specs.Parts.{partOf}
-use Rattle.boxes.specs.Header.{headerOf}
-use Rattle.boxes.specs.declared.header.Found as header-found
-use Rattle.boxes.specs.declared.header.Found.the-variants as header
 use Rattle.places.specs.Kinds as kinds
 use Rattle.rows.specs.Judge.{settle}
 use Rattle.rows.specs.declared.Judged.{Judged}
 use Rattle.rows.specs.declared.Judged.the-variants.{Fine, Wrong}
-use Rattle.children.specs.Children.{wholeOf, placeOf}
-use Rattle.children.specs.declared.Place.{Place}
-use Rattle.children.specs.declared.Place.the-variants as place
 use Rattle.stts.specs.Stts.{sttsOf}
 use Rattle.stts.specs.declared.Found as stts-found
 use Rattle.stts.specs.declared.Found.the-variants as stts
@@ -47,8 +41,6 @@ use Rattle.tables.specs.declared.Track.{Track}
 use Rattle.stbl.specs.declared.Span.{Span}
 use Rattle.stbl.specs.declared.Span.the-variants as span
 use Rattle.stbl.specs.declared.Boxes.{Boxes}
-use Rattle.stbl.specs.declared.Places.{Places}
-use Rattle.stbl.specs.declared.Places.the-variants as places
 use Rattle.stbl.specs.declared.Found.{Found}
 use Rattle.stbl.specs.declared.Found.the-variants as found
 use Rattle.stbl.specs.declared.Entries.{Entries}
@@ -201,35 +193,3 @@ built r wide = record {
 -- the tables of the track whose boxes lie there in the file: by co64 where it is there
 abbrev pub trackOf : List ℕ → Boxes → Found
 trackOf f b = settle (found.Is (built (readAll f b) (isThere (b .co64)))) found.Refused (firstWrong (faults (readAll f b)) (lacks (readAll f b)))
-
--- THE BOXES OF AN STBL
-
-abbrev pub spanBy : ℕ → header-found.Found → Span
-spanBy at (header.Is h) = span.At at (h .size)
-spanBy at (header.Refused q) = span.Absent
-
-abbrev pub spanAt : List ℕ → ℕ → Span
-spanAt part at = spanBy at (headerOf part at false)
-
-abbrev pub spanIn : List ℕ → Place → Span
-spanIn part place.Absent = span.Absent
-spanIn part (place.At at) = spanAt part at
-
--- the first child of this type
-abbrev pub spanOf : ℕ → List ℕ → Span
-spanOf kind part = spanIn part (placeOf kinds.stbl kind part)
-
-abbrev pub boxesIn : List ℕ → Boxes
-boxesIn part = record {
-  stts = spanOf kinds.stts part;
-  ctts = spanOf kinds.ctts part;
-  stsc = spanOf kinds.stsc part;
-  stsz = spanOf kinds.stsz part;
-  stco = spanOf kinds.stco part;
-  co64 = spanOf kinds.co64 part;
-  stss = spanOf kinds.stss part;
-}
-
--- no child's header has a fault, and the first of each type is told, from the first byte of the stbl on
-abbrev pub boxesOf : List ℕ → Places
-boxesOf part = settle (places.Are (boxesIn part)) places.Refused (wholeOf kinds.stbl part)

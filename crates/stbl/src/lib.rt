@@ -4,9 +4,7 @@
 ghost use mathlib.Core.Path.{_≡_};
 ghost use Rattle.stbl.specs.Stbl.{entriesAt, movedBy, sttsAt, cttsAt, stscAt, stszAt, stcoAt, co64At, stssAt};
 ghost use Rattle.stbl.specs.Stbl.{laterOf, chunksAt, readAll, faultIn, missing, firstWrong, faults, lacks};
-ghost use Rattle.stbl.specs.Stbl.{entriesIn, tableIn, optionalIn, isThere, built, trackOf, spanAt, spanOf, boxesOf};
-use boxes::header;
-use children::Place;
+ghost use Rattle.stbl.specs.Stbl.{entriesIn, tableIn, optionalIn, isThere, built, trackOf};
 use numbers::Refusal;
 use places::kinds;
 use rows::Judged;
@@ -31,11 +29,6 @@ pub struct Boxes {
     pub stco: Span,
     pub co64: Span,
     pub stss: Span,
-}
-
-pub enum Places {
-    Are(Boxes),
-    Refused(Refusal),
 }
 
 pub enum Found {
@@ -379,43 +372,5 @@ pub fn track(file: &[u8], boxes: Boxes) -> Found
     match first_wrong(faults(all), lacks(all)) {
         Judged::Fine => Found::Is(built(all, is_there(wide))),
         Judged::Wrong(q) => Found::Refused(q),
-    }
-}
-
-// The span of the box whose header begins at `at`.
-fn span_at(part: &[u8], at: usize) -> Span
-    ensures { λ r. ⌜ r ≡ spanAt (now (part .entry)) at ⌝ }
-{
-    match header::read(part, at, false) {
-        header::Found::Is(h) => Span::At(at, h.size),
-        header::Found::Refused(_) => Span::Absent,
-    }
-}
-
-// The first child of this type.
-fn span_of(part: &[u8], kind: u32) -> Span
-    ensures { λ r. ⌜ r ≡ spanOf kind (now (part .entry)) ⌝ }
-{
-    match children::place_of(part, kinds::STBL, kind) {
-        Place::Absent => Span::Absent,
-        Place::At(at) => span_at(part, at),
-    }
-}
-
-// Where the boxes of an stbl lie, counted from its own first byte: the first of each type.
-pub fn find(part: &[u8]) -> Places
-    ensures { λ r. ⌜ r ≡ boxesOf (now (part .entry)) ⌝ }
-{
-    match children::whole(part, kinds::STBL) {
-        Judged::Wrong(q) => Places::Refused(q),
-        Judged::Fine => Places::Are(Boxes {
-            stts: span_of(part, kinds::STTS),
-            ctts: span_of(part, kinds::CTTS),
-            stsc: span_of(part, kinds::STSC),
-            stsz: span_of(part, kinds::STSZ),
-            stco: span_of(part, kinds::STCO),
-            co64: span_of(part, kinds::CO64),
-            stss: span_of(part, kinds::STSS),
-        }),
     }
 }

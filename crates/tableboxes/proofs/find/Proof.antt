@@ -1,12 +1,12 @@
-use Rattle.stbl.specs.declared.Places.the-variants as places
-use Rattle.stbl.proofs.Laws as laws
+use Rattle.tableboxes.specs.declared.Places.the-variants as places
+use Rattle.tableboxes.proofs.Laws as laws
 use Rattle.rounds.proofs.JudgedBoxes.{settles, unsettles}
 use mathlib.Core.Path.{refl, ap}
 use borrow.Author.Needs.{needs}
-use Rattle.stbl.proofs.find.Statement.{statement}
-use Rattle.stbl.proofs.find.Tie as tie
+use Rattle.tableboxes.proofs.find.Statement.{statement}
+use Rattle.tableboxes.proofs.find.Tie as tie
 use Rattle.children.proofs.whole.Reads as whole-reads
-use Rattle.stbl.proofs.span_of.Reads as span-of-reads
+use Rattle.tableboxes.proofs.span_of.Reads as span-of-reads
 
 whole-requires : tie.Need-whole-requires
 whole-requires c κs = search needs
