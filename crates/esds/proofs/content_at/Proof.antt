@@ -33,13 +33,4 @@ returns-3 c = all-told (c .before .before .before .before .before .before .befor
 pub content-at-spec : {M : Type 1} → statement M
 content-at-spec =
     tie.close
-    (tie.spec
-    read-requires
-    enum-known-q
-    enum-known-stream
-    tail-at-requires
-    enum-known-q-2
-    enum-known-decoder
-    returns
-    returns-2
-    returns-3)
+    (tie.spec read-requires enum-known-q enum-known-stream tail-at-requires enum-known-q-2 enum-known-decoder returns returns-2 returns-3)

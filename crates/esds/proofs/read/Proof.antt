@@ -37,11 +37,4 @@ returns-2 c = read-told (c .before .before .before .before .before .before .befo
 pub read-spec : {M : Type 1} → statement M
 read-spec =
     tie.close
-    (tie.spec
-    by-requires
-    returns
-    slice-aggregate-stream-at
-    array-read-stream-at
-    cast-stream-at
-    stream-at-requires
-    returns-2)
+    (tie.spec by-requires returns slice-aggregate-stream-at array-read-stream-at cast-stream-at stream-at-requires returns-2)

@@ -68,23 +68,4 @@ returns-6 c = other (c .before .before .before .before .before .before .before .
 pub stream-at-spec : {M : Type 1} → statement M
 stream-at-spec =
     tie.close
-    (tie.spec
-    u8-at-requires
-    enum-known-tag
-    enum-told
-    returns
-    add-length-at
-    length-at-requires
-    enum-known-q
-    returns-2
-    enum-known-value
-    sub-if2
-    cast-if2
-    returns-3
-    cast-to
-    add-to
-    slice-aggregate-content-at
-    content-at-requires
-    returns-4
-    returns-5
-    returns-6)
+    (tie.spec u8-at-requires enum-known-tag enum-told returns add-length-at length-at-requires enum-known-q returns-2 enum-known-value sub-if2 cast-if2 returns-3 cast-to add-to slice-aggregate-content-at content-at-requires returns-4 returns-5 returns-6)

@@ -51,18 +51,4 @@ returns-5 c = config-told (c .before .before .before .before .before .before .be
 pub tail-at-spec : {M : Type 1} → statement M
 tail-at-spec =
     tie.close
-    (tie.spec
-    seek-requires
-    enum-known-q
-    enum-told
-    enum-known-tag
-    returns
-    slice-aggregate-read
-    read-requires
-    enum-known-q-2
-    enum-known-config
-    after-config-requires
-    returns-2
-    returns-3
-    returns-4
-    returns-5)
+    (tie.spec seek-requires enum-known-q enum-told enum-known-tag returns slice-aggregate-read read-requires enum-known-q-2 enum-known-config after-config-requires returns-2 returns-3 returns-4 returns-5)
