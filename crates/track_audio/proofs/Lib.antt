@@ -1,0 +1,4 @@
+mod Cases
+pub mod Example
+mod Unique
+mod Vectors

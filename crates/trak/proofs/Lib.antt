@@ -1,0 +1,4 @@
+pub mod Cases
+pub mod Example
+mod Unique
+mod Vectors

@@ -1,0 +1,2 @@
+mod Unique
+mod Vectors
