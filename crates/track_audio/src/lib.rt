@@ -64,7 +64,7 @@ fn config(trak: &[u8]) -> asc::Found
         esds::Found::Refused(q) => asc::Found::Refused(q),
         esds::Found::Is(_, _) => {
             let found = part(trak);
-            let info = esds::info(found);
+            let info = esds_parts::info(found);
             asc::read(info)
         }
     }

@@ -72,7 +72,7 @@ pub fn sps(trak: &[u8], i: u8) -> &[u8]
     ensures { λ r. ⌜ now r ≡ spsOf i (now (trak .entry)) ⌝ }
 {
     let found = part(trak);
-    avcc::sps(found, i)
+    avcc_parts::sps(found, i)
 }
 
 // The i-th picture parameter set, in the same way.
@@ -80,7 +80,7 @@ pub fn pps(trak: &[u8], i: u8) -> &[u8]
     ensures { λ r. ⌜ now r ≡ ppsOf i (now (trak .entry)) ⌝ }
 {
     let found = part(trak);
-    avcc::pps(found, i)
+    avcc_parts::pps(found, i)
 }
 
 // Whether there is an i-th of so many sets.

@@ -8,8 +8,8 @@ use places::kinds;
 fn within(part: &[u8], parent: u32, kind: u32) -> &[u8]
     ensures { λ r. ⌜ now r ≡ within parent kind (now (part .entry)) ⌝ }
 {
-    let inside = children::content(part, parent);
-    children::first_box(inside, kind)
+    let inside = wrap::content(part, parent);
+    boxparts::first_box(inside, kind)
 }
 
 fn mdia(trak: &[u8]) -> &[u8]
