@@ -1,1 +1,4 @@
 pub mod Joins
+pub mod Given
+pub mod Fits
+pub mod Bounds
