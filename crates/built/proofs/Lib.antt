@@ -2,3 +2,4 @@ pub mod Joins
 pub mod Given
 pub mod Fits
 pub mod Bounds
+pub mod Tells
