@@ -3,3 +3,4 @@ pub mod Given
 pub mod Fits
 pub mod Bounds
 pub mod Tells
+pub mod Boxes
