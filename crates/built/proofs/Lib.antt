@@ -4,3 +4,4 @@ pub mod Fits
 pub mod Bounds
 pub mod Tells
 pub mod Boxes
+pub mod Readings
