@@ -5,3 +5,4 @@ pub mod Bounds
 pub mod Tells
 pub mod Boxes
 pub mod Readings
+pub mod Stored
