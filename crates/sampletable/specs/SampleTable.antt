@@ -134,6 +134,19 @@ abbrev pub toldBy : Put → ℕ
 toldBy (Done k) = k
 toldBy (Refused q) = q .detail
 
+-- the bytes between the first number and the entries
+unfoldable pub behindOf : Table → ℕ
+behindOf Stsz = 4
+behindOf Stts = 0
+behindOf Ctts = 0
+behindOf Stsc = 0
+behindOf Offsets = 0
+behindOf Stss = 0
+
+-- what a table's box has before its entries
+abbrev pub beforeOf : Table → ℕ → List ℕ → ℕ → List ℕ
+beforeOf t scale rs n = (12 + length (headOf t scale rs n ++ listOf t scale rs n) * 4) ∷ kindOf t (wideIn scale rs n) ∷ 0 ∷ headOf t scale rs n
+
 -- no builder refuses
 pub record Ready (scale : ℕ) (rs : List ℕ) (n : ℕ) : Type 0 where
   pub scaled : scale ≡ 0 → ⊥
@@ -145,3 +158,8 @@ pub record Ready (scale : ℕ) (rs : List ℕ) (n : ℕ) : Type 0 where
 pub record Puts (ns o : List ℕ) (at : ℕ) (p : List ℕ) (r : ℕ) : Type 0 where
   pub next : r ≡ at + length ns * 4
   pub put : p ≡ sets o at (wordsOf ns)
+
+-- there is room for them, and they end at a place of 32 bits
+pub record HasRoom (ns o : List ℕ) (at : ℕ) : Type 0 where
+  pub within : at + length ns * 4 ≤ length o
+  pub small : at + length ns * 4 < 2 ^ 32
