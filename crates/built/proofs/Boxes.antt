@@ -51,13 +51,15 @@ module _ {M : Type 0} {R : Type 0} (is : M → ℕ → R) (refused : Refusal →
       let o = take k out in
       let g = fieldsIn (length o) (p .0) (firsts (slots fs) 0 (to m)) in
       let c : cutOf (n (from (g .values))) w (take (length o) o) (p .0) ≡ Whole =
-      ap₂ (λ (m : M) (l : List ℕ). cutOf (n m) w l (p .0)) (ft m) (take-length o) ∙ holds (n m) w (take k out) (p .0) (omega (arith, a .0, p .3)) in
-      (a .0, record {
-        place = p .0;
-        reads = sym (table-is is refused from n w (take k out) g (readOf kind fs (take k out)) (sym (p .1)) refl Whole (sym c) refl) ∙ ap (λ m. is m (p .0)) (ft m);
-        ends = p .2;
-        within = p .3;
-      })
+      ap₂ (λ (m : M) (l : List ℕ). cutOf (n m) w l (p .0)) (ft m) (take-length o) ∙ holds (n m) w (take k out) (p .0) (omega (arith, a .0, p .3)) in (
+        a .0,
+        record {
+          place = p .0;
+          reads = sym (table-is is refused from n w (take k out) g (readOf kind fs (take k out)) (sym (p .1)) refl Whole (sym c) refl) ∙ ap (λ m. is m (p .0)) (ft m);
+          ends = p .2;
+          within = p .3;
+        },
+      )
 
 module _ {M : Type 0} {R : Type 0} (is : M → ℕ → R) (refused : Refusal → R) (from : List ℕ → M) (to : M → List ℕ) (size : M → ℕ) (judge : M → List ℕ → ℕ → Judged)
     (move : (m : M) (s : ℕ) (b : List ℕ) → s ≤ length b → judge m b s ≡ moved s (judge m (drop s b) 0)) (kind : ℕ) (fs : List Field) where
@@ -71,13 +73,15 @@ module _ {M : Type 0} {R : Type 0} (is : M → ℕ → R) (refused : Refusal →
       let g = fieldsIn (length o) (p .0) (firsts (slots fs) 0 (to m)) in
       let j : judge m (take k out) (p .0) ≡ Fine =
       move m (p .0) (take k out) (omega (arith, p .3)) ∙ ap (λ l. moved (p .0) (judge m l 0)) (p .2) ∙ ap (moved (p .0)) (a .1) in
-      let c : judge (from (g .values)) (take (length o) o) (p .0) ≡ Fine = ap₂ (λ (m : M) (l : List ℕ). judge m l (p .0)) (ft m) (take-length o) ∙ j in
-      (a .0, record {
-        place = p .0;
-        reads = sym (judged-is is refused from judge (take k out) g (readOf kind fs (take k out)) (sym (p .1)) refl Fine (sym c) refl) ∙ ap (λ m. is m (p .0)) (ft m);
-        ends = p .2;
-        within = p .3;
-      })
+      let c : judge (from (g .values)) (take (length o) o) (p .0) ≡ Fine = ap₂ (λ (m : M) (l : List ℕ). judge m l (p .0)) (ft m) (take-length o) ∙ j in (
+        a .0,
+        record {
+          place = p .0;
+          reads = sym (judged-is is refused from judge (take k out) g (readOf kind fs (take k out)) (sym (p .1)) refl Fine (sym c) refl) ∙ ap (λ m. is m (p .0)) (ft m);
+          ends = p .2;
+          within = p .3;
+        },
+      )
 
 -- IN A FILE
 

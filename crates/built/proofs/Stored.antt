@@ -48,23 +48,21 @@ module _ (f : List ℕ) (h : length f < 2 ^ 64) (l : List Sample) (w : All Of64 
   stts-back : (s : Span) (m : _) → BoxAt f s (builder.sttsOf (recordsOf l) (length l)) (stts.sttsIn m) →
       (faultIn (sttsAt f s) ≡ Fine) × (missing kinds.stts (sttsAt f s) ≡ Fine) × (pairs f (tableIn (sttsAt f s)) ≡ mergedOf (durationsOf l))
   stts-back s m x =
-      let y = stts-found f h s (builder.sttsOf (recordsOf l) (length l)) m x in
-      (
+      let y = stts-found f h s (builder.sttsOf (recordsOf l) (length l)) m x in (
         ap faultIn (y .is) ∙ no-fault (y .start) (y .place) (m .count) 0 (y .reach),
         ap (missing kinds.stts) (y .is) ∙ not-missing (y .start) (y .place) (m .count) 0 (y .reach) kinds.stts,
         ap (pairs f) (ap tableIn (y .is) ∙ table-is-there (y .start) (y .place) (m .count) 0 (y .reach))
-        ∙ stts-tells l f (x .room) (x .entries) (y .start + y .place) (m .count) (y .stands) (x .built) (omega (arith, y .many)),
+            ∙ stts-tells l f (x .room) (x .entries) (y .start + y .place) (m .count) (y .stands) (x .built) (omega (arith, y .many)),
       )
 
   ctts-back : (s : Span) → CttsAt f l s → (faultIn (cttsAt f s) ≡ Fine) × Shifted l (shifts f (optionalIn (cttsAt f s)))
   ctts-back s (CttsAt.absent room g e) =
       (ap (λ (x : Span). faultIn (cttsAt f x)) e, subst (λ (x : Span). Shifted l (shifts f (optionalIn (cttsAt f x)))) (sym e) (ctts-none l w room [] g refl))
   ctts-back s (CttsAt.present m x) =
-      let y = ctts-found f h s (builder.cttsOf (recordsOf l) (length l)) m x in
-      (
+      let y = ctts-found f h s (builder.cttsOf (recordsOf l) (length l)) m x in (
         ap faultIn (y .is) ∙ no-fault (y .start) (y .place) (m .count) 0 (y .reach),
         subst (λ (o : Optional). Shifted l (shifts f o)) (sym (ap optionalIn (y .is) ∙ optional-is-there (y .start) (y .place) (m .count) 0 (y .reach)))
-        (ctts-tells l w (x .room) (x .entries) (x .built) f (y .start + y .place) (m .count) (y .stands) (omega (arith, y .many))),
+            (ctts-tells l w (x .room) (x .entries) (x .built) f (y .start + y .place) (m .count) (y .stands) (omega (arith, y .many))),
       )
 
   stsz-back : (s : Span) → StszAt f l s →
@@ -73,25 +71,23 @@ module _ (f : List ℕ) (h : length f < 2 ^ 64) (l : List Sample) (w : All Of64 
   stsz-back s z =
       let x = z .box in
       let m = z .head in
-      let y = stsz-found f h s (builder.stszOf (recordsOf l) (length l)) m x in
-      (
+      let y = stsz-found f h s (builder.stszOf (recordsOf l) (length l)) m x in (
         ap faultIn (y .is) ∙ no-fault (y .start) (y .place) (m .count) (m .«sample_size») (y .reach),
         ap (missing kinds.stsz) (y .is) ∙ not-missing (y .start) (y .place) (m .count) (m .«sample_size») (y .reach) kinds.stsz,
         ap₂ (λ (t : Table) (c : ℕ). sizes f (record { at = t .at; count = t .count; common = c }))
-        (ap tableIn (y .is) ∙ table-is-there (y .start) (y .place) (m .count) (m .«sample_size») (y .reach))
-        (ap (λ r. entriesIn r .common) (y .is) ∙ common-is-there (y .start) (y .place) (m .count) (m .«sample_size») (y .reach))
-        ∙ ap₂ (λ (n c : ℕ). sizes f (record { at = y .start + y .place; count = n; common = c })) (z .many) (z .common)
-        ∙ stsz-tells l f (x .room) (x .entries) (y .start + y .place) (y .stands) (x .built),
+            (ap tableIn (y .is) ∙ table-is-there (y .start) (y .place) (m .count) (m .«sample_size») (y .reach))
+            (ap (λ r. entriesIn r .common) (y .is) ∙ common-is-there (y .start) (y .place) (m .count) (m .«sample_size») (y .reach))
+            ∙ ap₂ (λ (n c : ℕ). sizes f (record { at = y .start + y .place; count = n; common = c })) (z .many) (z .common)
+            ∙ stsz-tells l f (x .room) (x .entries) (y .start + y .place) (y .stands) (x .built),
       )
 
   stss-back : (s : Span) (m : _) → BoxAt f s (builder.stssOf (recordsOf l) (length l)) (stss.stssIn m) →
       (faultIn (stssAt f s) ≡ Fine) × (syncs f (optionalIn (stssAt f s)) ≡ those (syncsFrom 0 (flagsOf l)))
   stss-back s m x =
-      let y = stss-found f h s (builder.stssOf (recordsOf l) (length l)) m x in
-      (
+      let y = stss-found f h s (builder.stssOf (recordsOf l) (length l)) m x in (
         ap faultIn (y .is) ∙ no-fault (y .start) (y .place) (m .count) 0 (y .reach),
         ap (syncs f) (ap optionalIn (y .is) ∙ optional-is-there (y .start) (y .place) (m .count) 0 (y .reach))
-        ∙ ap those (stss-tells l f (x .room) (x .entries) (y .start + y .place) (m .count) (y .stands) (x .built) (sym (y .many))),
+            ∙ ap those (stss-tells l f (x .room) (x .entries) (y .start + y .place) (m .count) (y .stands) (x .built) (sym (y .many))),
       )
 
   module _ (scale : ℕ) where
@@ -99,12 +95,11 @@ module _ (f : List ℕ) (h : length f < 2 ^ 64) (l : List Sample) (w : All Of64 
         (faultIn (stscAt f s) ≡ Fine) × (missing kinds.stsc (stscAt f s) ≡ Fine)
         × (listed (groupAt f (tableIn (stscAt f s) .at)) (tableIn (stscAt f s) .count) ≡ entriesOf 1 (mergedOf (chunking.countsOf (chunksOf scale (piecesOf l)))))
     stsc-back s m x =
-        let y = stsc-found f h s (chunking.stscOf scale (recordsOf l) (length l)) m x in
-        (
+        let y = stsc-found f h s (chunking.stscOf scale (recordsOf l) (length l)) m x in (
           ap faultIn (y .is) ∙ no-fault (y .start) (y .place) (m .count) 0 (y .reach),
           ap (missing kinds.stsc) (y .is) ∙ not-missing (y .start) (y .place) (m .count) 0 (y .reach) kinds.stsc,
           ap (λ (t : Table). listed (groupAt f (t .at)) (t .count)) (ap tableIn (y .is) ∙ table-is-there (y .start) (y .place) (m .count) 0 (y .reach))
-          ∙ stsc-tells scale l w f (x .room) (x .entries) (y .start + y .place) (m .count) (y .stands) (x .built) (sym (y .many)),
+              ∙ stsc-tells scale l w f (x .room) (x .entries) (y .start + y .place) (m .count) (y .stands) (x .built) (sym (y .many)),
         )
 
     chunks-back : (narrow wide : Span) → ChunksAt f l scale narrow wide →
@@ -115,8 +110,7 @@ module _ (f : List ℕ) (h : length f < 2 ^ 64) (l : List Sample) (w : All Of64 
         let y = stco-found f h narrow (chunking.offsetsOf scale (recordsOf l) (length l)) m x in
         let r = ap₂ (λ (a b : Span). chunksAt f a b) (x .spanned) e ∙ sym (ap (stcoAt f) (x .spanned)) ∙ y .is in
         let t = stco-tells scale l w f (x .room) (x .entries) (y .start + y .place) (m .count) (y .stands) (x .built) near (sym (y .many)) in
-        let a = ap tableIn r ∙ table-is-there (y .start) (y .place) (m .count) 0 (y .reach) in
-        (
+        let a = ap tableIn r ∙ table-is-there (y .start) (y .place) (m .count) 0 (y .reach) in (
           ap faultIn r ∙ no-fault (y .start) (y .place) (m .count) 0 (y .reach),
           ap (missing kinds.stco) r ∙ not-missing (y .start) (y .place) (m .count) 0 (y .reach) kinds.stco,
           ap₂ (λ (t : Table) (b : Bool). chunks f (record { at = t .at; count = t .count; wide = b })) a (ap isThere e) ∙ t .0,
@@ -126,8 +120,7 @@ module _ (f : List ℕ) (h : length f < 2 ^ 64) (l : List Sample) (w : All Of64 
         let y = co64-found f h wide (chunking.offsetsOf scale (recordsOf l) (length l)) m x in
         let r = ap (λ (a : Span). chunksAt f a wide) e ∙ y .is in
         let t = co64-tells scale l w f (x .room) (x .entries) (y .start + y .place) (m .count) (y .stands) (x .built) far (sym (y .many)) in
-        let a = ap tableIn r ∙ table-is-there (y .start) (y .place) (m .count) 0 (y .reach) in
-        (
+        let a = ap tableIn r ∙ table-is-there (y .start) (y .place) (m .count) 0 (y .reach) in (
           ap faultIn r ∙ no-fault (y .start) (y .place) (m .count) 0 (y .reach),
           ap (missing kinds.stco) r ∙ not-missing (y .start) (y .place) (m .count) 0 (y .reach) kinds.stco,
           ap₂ (λ (t : Table) (b : Bool). chunks f (record { at = t .at; count = t .count; wide = b })) a (ap isThere (x .spanned)) ∙ t .0,

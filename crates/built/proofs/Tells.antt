@@ -214,16 +214,20 @@ module _ (scale : ℕ) (l : List Sample) (w : All Of64 l) (f o es : List ℕ) (a
   stco-tells near n =
       let q : anyWide all ≡ false = sym (places .1) ∙ near in
       let e : es ≡ wordsOf (offsetsBy false all) = places .0 ∙ ap (λ (b : Bool). wordsOf (offsetsBy b all)) q in
-      let c : count ≡ length all = omega (arith, n, ap length e, length-words (offsetsBy false all), length-narrow all) in
-      (ap (λ (x : List ℕ). chunks x (record { at = at; count = count; wide = false })) (s .there ∙ ap (λ (x : List ℕ). s .before ++ (x ++ s .behind)) e)
-      ∙ ap₂ (λ (a k : ℕ). chunks (s .before ++ (wordsOf (offsetsBy false all) ++ s .behind)) (record { at = a; count = k; wide = false })) (s .place) c
-      ∙ narrow-back all (s .before) (s .behind) q, c)
+      let c : count ≡ length all = omega (arith, n, ap length e, length-words (offsetsBy false all), length-narrow all) in (
+        ap (λ (x : List ℕ). chunks x (record { at = at; count = count; wide = false })) (s .there ∙ ap (λ (x : List ℕ). s .before ++ (x ++ s .behind)) e)
+            ∙ ap₂ (λ (a k : ℕ). chunks (s .before ++ (wordsOf (offsetsBy false all) ++ s .behind)) (record { at = a; count = k; wide = false })) (s .place) c
+            ∙ narrow-back all (s .before) (s .behind) q,
+        c,
+      )
 
   pub co64-tells : anyWide (chunksIn scale (recordsOf l) (length l)) ≡ true → count * 8 ≡ length es → (chunks f (record { at = at; count = count; wide = true }) ≡ placesOf all) × (count ≡ length all)
   co64-tells far n =
       let q : anyWide all ≡ true = sym (places .1) ∙ far in
       let e : es ≡ wordsOf (offsetsBy true all) = places .0 ∙ ap (λ (b : Bool). wordsOf (offsetsBy b all)) q in
-      let c : count ≡ length all = omega (arith, n, ap length e, length-words (offsetsBy true all), length-wide all) in
-      (ap (λ (x : List ℕ). chunks x (record { at = at; count = count; wide = true })) (s .there ∙ ap (λ (x : List ℕ). s .before ++ (x ++ s .behind)) e)
-      ∙ ap₂ (λ (a k : ℕ). chunks (s .before ++ (wordsOf (offsetsBy true all) ++ s .behind)) (record { at = a; count = k; wide = true })) (s .place) c
-      ∙ wide-back all (s .before) (s .behind) (places-wide all (chunks-bounded scale l w)), c)
+      let c : count ≡ length all = omega (arith, n, ap length e, length-words (offsetsBy true all), length-wide all) in (
+        ap (λ (x : List ℕ). chunks x (record { at = at; count = count; wide = true })) (s .there ∙ ap (λ (x : List ℕ). s .before ++ (x ++ s .behind)) e)
+            ∙ ap₂ (λ (a k : ℕ). chunks (s .before ++ (wordsOf (offsetsBy true all) ++ s .behind)) (record { at = a; count = k; wide = true })) (s .place) c
+            ∙ wide-back all (s .before) (s .behind) (places-wide all (chunks-bounded scale l w)),
+        c,
+      )

@@ -171,7 +171,15 @@ fn put_second(table: Table, out: &mut [u8], at: usize, n: u32) -> usize
 }
 
 // What a table's box has before its entries, of that many bytes; and the place after it.
-fn put_before(table: Table, records: &[u64], n: usize, timescale: u32, bytes: usize, out: &mut [u8], at: usize) -> usize
+fn put_before(
+    table: Table,
+    records: &[u64],
+    n: usize,
+    timescale: u32,
+    bytes: usize,
+    out: &mut [u8],
+    at: usize,
+) -> usize
     requires { ⌜ (n < 2 ^ 32) × (bytes ≡ length (listOf table timescale (now records) n) * 4) × (at + (20 + bytes) < 2 ^ 33) × (16 + behindOf table + bytes < 2 ^ 32) × (at + (16 + behindOf table) ≤ length (now out)) × (at + (16 + behindOf table) < 2 ^ 32) ⌝ }
     ensures { λ r. ⌜ Puts (beforeOf table timescale (now (records .entry)) n) (now (out .entry)) at (now (out .exit)) r ⌝ }
 {
@@ -185,7 +193,14 @@ fn put_before(table: Table, records: &[u64], n: usize, timescale: u32, bytes: us
 }
 
 // The box of a table, where it is written; and the place after it.
-fn put_table(table: Table, records: &[u64], n: usize, timescale: u32, out: &mut [u8], at: usize) -> usize
+fn put_table(
+    table: Table,
+    records: &[u64],
+    n: usize,
+    timescale: u32,
+    out: &mut [u8],
+    at: usize,
+) -> usize
     requires { ⌜ (Ready timescale (now records) n) × HasRoom (tableOf table timescale (now records) n) (now out) at ⌝ }
     ensures { λ r. ⌜ Puts (tableOf table timescale (now (records .entry)) n) (now (out .entry)) at (now (out .exit)) r ⌝ }
 {

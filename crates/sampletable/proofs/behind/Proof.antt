@@ -3,54 +3,40 @@ use Rattle.sampletable.proofs.Puts.{the-behind, behinds-are}
 use borrow.Author.Needs.{needs}
 use Rattle.sampletable.proofs.behind.Statement.{statement}
 use Rattle.sampletable.proofs.behind.Tie as tie
-use Rattle.sampletable.proofs.behind.Reads as reads
-use Rattle.sampletable.proofs.behind.Lts as lts
 
--- src/lib.rt:128:24
 enum-told : tie.Need-enum-told
 enum-told c = search needs
 
--- src/lib.rt:129:24
 enum-told-2 : tie.Need-enum-told-2
 enum-told-2 c = search needs
 
--- src/lib.rt:130:24
 enum-told-3 : tie.Need-enum-told-3
 enum-told-3 c = search needs
 
--- src/lib.rt:131:24
 enum-told-4 : tie.Need-enum-told-4
 enum-told-4 c = search needs
 
--- src/lib.rt:132:27
 enum-told-5 : tie.Need-enum-told-5
 enum-told-5 c = search needs
 
--- src/lib.rt:133:24
 enum-told-6 : tie.Need-enum-told-6
 enum-told-6 c = search needs
 
--- src/lib.rt:124:1
 returns : tie.Need-returns
 returns c = the-behind (c .before .before .args .table) Stts (c .enum-told .given .1) _ (behinds-are .0)
 
--- src/lib.rt:124:1
 returns-2 : tie.Need-returns-2
 returns-2 c = the-behind (c .before .before .args .table) Ctts (c .enum-told2 .given .1) _ (behinds-are .1)
 
--- src/lib.rt:124:1
 returns-3 : tie.Need-returns-3
 returns-3 c = the-behind (c .before .before .args .table) Stsc (c .enum-told3 .given .1) _ (behinds-are .2)
 
--- src/lib.rt:124:1
 returns-4 : tie.Need-returns-4
 returns-4 c = the-behind (c .before .before .args .table) Stsz (c .enum-told4 .given .1) _ (behinds-are .3)
 
--- src/lib.rt:124:1
 returns-5 : tie.Need-returns-5
 returns-5 c = the-behind (c .before .before .args .table) Offsets (c .enum-told5 .given .1) _ (behinds-are .4)
 
--- src/lib.rt:124:1
 returns-6 : tie.Need-returns-6
 returns-6 c = the-behind (c .before .before .args .table) Stss (c .enum-told6 .given .1) _ (behinds-are .5)
 

@@ -2,108 +2,76 @@ use Rattle.sampletable.proofs.Cases.{by-stts, by-ctts, by-stsc, by-stsz
 use borrow.Author.Needs.{needs}
 use Rattle.sampletable.proofs.entries.Statement.{statement}
 use Rattle.sampletable.proofs.entries.Tie as tie
-use Rattle.sampletable.proofs.entries.Reads as reads
-use Rattle.sampletable.proofs.entries.Lts as lts
-use Rattle.builder.proofs.ctts.entries.Reads as ctts-entries-reads
-use Rattle.builder.proofs.stss.entries.Reads as stss-entries-reads
-use Rattle.builder.proofs.stsz.entries.Reads as stsz-entries-reads
-use Rattle.builder.proofs.stts.entries.Reads as stts-entries-reads
-use Rattle.chunking.proofs.offsets.entries.Reads as offsets-entries-reads
-use Rattle.chunking.proofs.stsc.entries.Reads as stsc-entries-reads
 
--- src/lib.rt:40:59
 enum-told : tie.Need-enum-told
 enum-told c = search needs
 
--- src/lib.rt:40:24
 entries-requires : tie.Need-entries-requires
 entries-requires c κs = search needs
 
--- src/lib.rt:41:59
 enum-told-2 : tie.Need-enum-told-2
 enum-told-2 c = search needs
 
--- src/lib.rt:41:24
 entries-requires-2 : tie.Need-entries-requires-2
 entries-requires-2 c κs = search needs
 
--- src/lib.rt:42:71
 enum-told-3 : tie.Need-enum-told-3
 enum-told-3 c = search needs
 
--- src/lib.rt:42:24
 entries-requires-3 : tie.Need-entries-requires-3
 entries-requires-3 c κs = search needs
 
--- src/lib.rt:43:59
 enum-told-4 : tie.Need-enum-told-4
 enum-told-4 c = search needs
 
--- src/lib.rt:43:24
 entries-requires-4 : tie.Need-entries-requires-4
 entries-requires-4 c κs = search needs
 
--- src/lib.rt:44:77
 enum-told-5 : tie.Need-enum-told-5
 enum-told-5 c = search needs
 
--- src/lib.rt:44:27
 entries-requires-5 : tie.Need-entries-requires-5
 entries-requires-5 c κs = search needs
 
--- src/lib.rt:45:59
 enum-told-6 : tie.Need-enum-told-6
 enum-told-6 c = search needs
 
--- src/lib.rt:45:24
 entries-requires-6 : tie.Need-entries-requires-6
 entries-requires-6 c κs = search needs
 
--- src/lib.rt:36:1
 same-length : tie.Need-same-length
 same-length c = search needs
 
--- src/lib.rt:36:1
 returns : tie.Need-returns
 returns c = by-stts (c .before .before .before .before .before .before .before .before .args .table) (c .before .before .before .before .before .before .before .before .args .timescale) (c .before .before .before .before .before .before .before .before .args .records .now) (c .before .before .before .before .before .before .before .before .args .n) (c .before .before .before .before .before .before .before .before .args .out .now) _ (c .before .before .before .before .enum-told .given .1) (c .before .before .entries .ensures)
 
--- src/lib.rt:36:1
 same-length-2 : tie.Need-same-length-2
 same-length-2 c = search needs
 
--- src/lib.rt:36:1
 returns-2 : tie.Need-returns-2
 returns-2 c = by-ctts (c .before .before .before .before .before .before .before .before .args .table) (c .before .before .before .before .before .before .before .before .args .timescale) (c .before .before .before .before .before .before .before .before .args .records .now) (c .before .before .before .before .before .before .before .before .args .n) (c .before .before .before .before .before .before .before .before .args .out .now) _ (c .before .before .before .before .enum-told2 .given .1) (c .before .before .entries2 .ensures)
 
--- src/lib.rt:36:1
 same-length-3 : tie.Need-same-length-3
 same-length-3 c = search needs
 
--- src/lib.rt:36:1
 returns-3 : tie.Need-returns-3
 returns-3 c = by-stsc (c .before .before .before .before .before .before .before .before .args .table) (c .before .before .before .before .before .before .before .before .args .timescale) (c .before .before .before .before .before .before .before .before .args .records .now) (c .before .before .before .before .before .before .before .before .args .n) (c .before .before .before .before .before .before .before .before .args .out .now) _ (c .before .before .before .before .enum-told3 .given .1) (c .before .before .entries3 .ensures)
 
--- src/lib.rt:36:1
 same-length-4 : tie.Need-same-length-4
 same-length-4 c = search needs
 
--- src/lib.rt:36:1
 returns-4 : tie.Need-returns-4
 returns-4 c = by-stsz (c .before .before .before .before .before .before .before .before .args .table) (c .before .before .before .before .before .before .before .before .args .timescale) (c .before .before .before .before .before .before .before .before .args .records .now) (c .before .before .before .before .before .before .before .before .args .n) (c .before .before .before .before .before .before .before .before .args .out .now) _ (c .before .before .before .before .enum-told4 .given .1) (c .before .before .entries4 .ensures)
 
--- src/lib.rt:36:1
 same-length-5 : tie.Need-same-length-5
 same-length-5 c = search needs
 
--- src/lib.rt:36:1
 returns-5 : tie.Need-returns-5
 returns-5 c = by-offsets (c .before .before .before .before .before .before .before .before .args .table) (c .before .before .before .before .before .before .before .before .args .timescale) (c .before .before .before .before .before .before .before .before .args .records .now) (c .before .before .before .before .before .before .before .before .args .n) (c .before .before .before .before .before .before .before .before .args .out .now) _ (c .before .before .before .before .enum-told5 .given .1) (c .before .before .entries5 .ensures)
 
--- src/lib.rt:36:1
 same-length-6 : tie.Need-same-length-6
 same-length-6 c = search needs
 
--- src/lib.rt:36:1
 returns-6 : tie.Need-returns-6
 returns-6 c = by-stss (c .before .before .before .before .before .before .before .before .args .table) (c .before .before .before .before .before .before .before .before .args .timescale) (c .before .before .before .before .before .before .before .before .args .records .now) (c .before .before .before .before .before .before .before .before .args .n) (c .before .before .before .before .before .before .before .before .args .out .now) _ (c .before .before .before .before .enum-told6 .given .1) (c .before .before .entries6 .ensures)
 

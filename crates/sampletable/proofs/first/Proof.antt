@@ -4,63 +4,46 @@ use Rattle.sampletable.proofs.Cases.{the-first, firsts-are, wide-first,
 use borrow.Author.Needs.{needs}
 use Rattle.sampletable.proofs.first.Statement.{statement}
 use Rattle.sampletable.proofs.first.Tie as tie
-use Rattle.sampletable.proofs.first.Reads as reads
-use Rattle.sampletable.proofs.first.Lts as lts
-use Rattle.builder.proofs.stsz.common.Reads as common-reads
 
--- src/lib.rt:107:24
 enum-told : tie.Need-enum-told
 enum-told c = search needs
 
--- src/lib.rt:108:24
 enum-told-2 : tie.Need-enum-told-2
 enum-told-2 c = search needs
 
--- src/lib.rt:109:24
 enum-told-3 : tie.Need-enum-told-3
 enum-told-3 c = search needs
 
--- src/lib.rt:110:24
 enum-told-4 : tie.Need-enum-told-4
 enum-told-4 c = search needs
 
--- src/lib.rt:110:24
 common-requires : tie.Need-common-requires
 common-requires c κs = search needs
 
--- src/lib.rt:112:16
 enum-told-5 : tie.Need-enum-told-5
 enum-told-5 c = search needs
 
--- src/lib.rt:113:17
 returns : tie.Need-returns
 returns c = the-first (c .before .before .before .before .args .table) Offsets (c .before .enum-told5 .given .1) (c .before .before .before .before .args .wide) (c .before .before .before .before .args .records .now) (c .before .before .before .before .args .n) (c .before .before .before .before .args .many) _ (wide-first (c .before .before .before .before .args .wide) (c .before .before .before .before .args .records .now) (c .before .before .before .before .args .n) (c .before .before .before .before .args .many) (c .if1 .taken))
 
--- src/lib.rt:117:24
 enum-told-6 : tie.Need-enum-told-6
 enum-told-6 c = search needs
 
--- src/lib.rt:103:1
 returns-2 : tie.Need-returns-2
 returns-2 c = the-first (c .before .before .before .args .table) Stts (c .enum-told .given .1) (c .before .before .before .args .wide) (c .before .before .before .args .records .now) (c .before .before .before .args .n) (c .before .before .before .args .many) _ (firsts-are (c .before .before .before .args .wide) (c .before .before .before .args .records .now) (c .before .before .before .args .n) (c .before .before .before .args .many) .0)
 
--- src/lib.rt:103:1
 returns-3 : tie.Need-returns-3
 returns-3 c = the-first (c .before .before .before .args .table) Ctts (c .enum-told2 .given .1) (c .before .before .before .args .wide) (c .before .before .before .args .records .now) (c .before .before .before .args .n) (c .before .before .before .args .many) _ (firsts-are (c .before .before .before .args .wide) (c .before .before .before .args .records .now) (c .before .before .before .args .n) (c .before .before .before .args .many) .1)
 
--- src/lib.rt:103:1
 returns-4 : tie.Need-returns-4
 returns-4 c = the-first (c .before .before .before .args .table) Stsc (c .enum-told3 .given .1) (c .before .before .before .args .wide) (c .before .before .before .args .records .now) (c .before .before .before .args .n) (c .before .before .before .args .many) _ (firsts-are (c .before .before .before .args .wide) (c .before .before .before .args .records .now) (c .before .before .before .args .n) (c .before .before .before .args .many) .2)
 
--- src/lib.rt:103:1
 returns-5 : tie.Need-returns-5
 returns-5 c = the-first (c .before .before .before .before .args .table) Stsz (c .before .enum-told4 .given .1) (c .before .before .before .before .args .wide) (c .before .before .before .before .args .records .now) (c .before .before .before .before .args .n) (c .before .before .before .before .args .many) _ (c .common .ensures ∙ firsts-are (c .before .before .before .before .args .wide) (c .before .before .before .before .args .records .now) (c .before .before .before .before .args .n) (c .before .before .before .before .args .many) .3)
 
--- src/lib.rt:103:1
 returns-6 : tie.Need-returns-6
 returns-6 c = the-first (c .before .before .before .before .args .table) Offsets (c .before .enum-told5 .given .1) (c .before .before .before .before .args .wide) (c .before .before .before .before .args .records .now) (c .before .before .before .before .args .n) (c .before .before .before .before .args .many) _ (narrow-first (c .before .before .before .before .args .wide) (c .before .before .before .before .args .records .now) (c .before .before .before .before .args .n) (c .before .before .before .before .args .many) (c .if1 .left))
 
--- src/lib.rt:103:1
 returns-7 : tie.Need-returns-7
 returns-7 c = the-first (c .before .before .before .args .table) Stss (c .enum-told6 .given .1) (c .before .before .before .args .wide) (c .before .before .before .args .records .now) (c .before .before .before .args .n) (c .before .before .before .args .many) _ (firsts-are (c .before .before .before .args .wide) (c .before .before .before .args .records .now) (c .before .before .before .args .n) (c .before .before .before .args .many) .4)
 

@@ -1,35 +1,25 @@
-use mathlib.Core.Path.{_≡_, refl, sym, ap, _∙_}
-use native.Mathlib.Omega.{arith}
+use mathlib.Core.Path.{sym, _∙_}
 use borrow.Author.Tests.{not-true, not-false}
 use Rattle.sampletable.proofs.Whole.{sizes-unfit, durations-unfit, others-fit}
 use borrow.Author.Needs.{needs}
 use Rattle.sampletable.proofs.fit.Statement.{statement}
 use Rattle.sampletable.proofs.fit.Tie as tie
-use Rattle.sampletable.proofs.fit.Reads as reads
-use Rattle.sampletable.proofs.fit.Lts as lts
-use Rattle.columns.proofs.all_right.Reads as all-right-reads
 
--- src/lib.rt:243:9
 all-right-requires : tie.Need-all-right-requires
 all-right-requires c κs = search needs
 
--- src/lib.rt:244:9
 returns : tie.Need-returns
 returns c = sizes-unfit (c .before .before .before .args .records .now) (c .before .before .before .args .n) (sym (c .before .all-right .ensures) ∙ not-true _ (c .if1 .taken))
 
--- src/lib.rt:246:9
 all-right-requires-2 : tie.Need-all-right-requires-2
 all-right-requires-2 c κs = search needs
 
--- src/lib.rt:247:9
 returns-2 : tie.Need-returns-2
 returns-2 c = durations-unfit (c .before .before .before .before .before .args .records .now) (c .before .before .before .before .before .args .n) (sym (c .before .before .before .all-right .ensures) ∙ not-false _ (c .before .before .if1 .left)) (sym (c .before .all-right2 .ensures) ∙ not-true _ (c .if2 .taken))
 
--- src/lib.rt:249:5
 all-right-requires-3 : tie.Need-all-right-requires-3
 all-right-requires-3 c κs = search needs
 
--- src/lib.rt:240:1
 returns-3 : tie.Need-returns-3
 returns-3 c = c .all-right3 .ensures ∙ others-fit (c .before .before .before .before .before .before .args .records .now) (c .before .before .before .before .before .before .args .n) (sym (c .before .before .before .before .all-right .ensures) ∙ not-false _ (c .before .before .before .if1 .left)) (sym (c .before .before .all-right2 .ensures) ∙ not-false _ (c .before .if2 .left))
 

@@ -4,24 +4,16 @@ use Rattle.sampletable.proofs.Cases.{ready-placed, told-length}
 use borrow.Author.Needs.{needs}
 use Rattle.sampletable.proofs.listed.Statement.{statement}
 use Rattle.sampletable.proofs.listed.Tie as tie
-use Rattle.sampletable.proofs.listed.Reads as reads
-use Rattle.sampletable.proofs.listed.Lts as lts
-use Rattle.sampletable.proofs.entries.Reads as entries-reads
-use Rattle.sampletable.proofs.told.Reads as told-reads
 
--- src/lib.rt:65:56
 slice-aggregate-entries : tie.Need-slice-aggregate-entries
 slice-aggregate-entries c = search needs
 
--- src/lib.rt:65:9
 entries-requires : tie.Need-entries-requires
 entries-requires c κs = search needs
 
--- src/lib.rt:66:5
 told-requires : tie.Need-told-requires
 told-requires c κs = search needs
 
--- src/lib.rt:60:1
 returns : tie.Need-returns
 returns c = told-length (listOf (c .before .before .before .before .before .args .table) (c .before .before .before .before .before .args .timescale) (c .before .before .before .before .before .args .records .now) (c .before .before .before .before .before .args .n)) _ _ (c .before .before .entries .result) _ (c .before .before .entries .ensures ∙ ready-placed (c .before .before .before .before .before .args .timescale) (c .before .before .before .before .before .args .records .now) (c .before .before .before .before .before .args .n) (c .before .before .before .before .before .pre) _ (c .before .before .before .before .before .args .table)) (c .told .ensures)
 

@@ -2,41 +2,28 @@ use Rattle.sampletable.proofs.Whole.{all-put}
 use borrow.Author.Needs.{needs}
 use Rattle.sampletable.proofs.put_all.Statement.{statement}
 use Rattle.sampletable.proofs.put_all.Tie as tie
-use Rattle.sampletable.proofs.put_all.Reads as reads
-use Rattle.sampletable.proofs.put_all.Lts as lts
-use Rattle.put.proofs.part.Reads as part-reads
-use Rattle.put.proofs.u32_at.Reads as u32-at-reads
-use Rattle.sampletable.proofs.put_tables.Reads as put-tables-reads
 
--- src/lib.rt:233:25
 cast-u32-at : tie.Need-cast-u32-at
 cast-u32-at c = search needs
 
--- src/lib.rt:233:5
 u32-at-requires : tie.Need-u32-at-requires
 u32-at-requires c κs = search needs
 
--- src/lib.rt:234:5
 u32-at-requires-2 : tie.Need-u32-at-requires-2
 u32-at-requires-2 c κs = search needs
 
--- src/lib.rt:235:5
 part-requires : tie.Need-part-requires
 part-requires c κs = search needs
 
--- src/lib.rt:236:44
 add-put-tables : tie.Need-add-put-tables
 add-put-tables c = search needs
 
--- src/lib.rt:236:5
 put-tables-requires : tie.Need-put-tables-requires
 put-tables-requires c κs = search needs
 
--- src/lib.rt:229:1
 same-length : tie.Need-same-length
 same-length c = search needs
 
--- src/lib.rt:229:1
 returns : tie.Need-returns
 returns c = all-put (c .before .before .before .before .before .before .before .before .before .before .before .before .before .before .before .before .before .before .before .args .timescale) (c .before .before .before .before .before .before .before .before .before .before .before .before .before .before .before .before .before .before .before .args .records .now) (c .before .before .before .before .before .before .before .before .before .before .before .before .before .before .before .before .before .before .before .args .n) (c .before .before .before .before .before .before .before .before .before .before .before .before .before .before .before .before .before .before .before .args .stsd .now) (c .before .before .before .before .before .before .before .before .before .before .before .before .before .before .before .before .before .before .before .args .out .now) _ _ _ _ (c .before .before .before .before .before .before .before .before .before .before .before .before .before .before .before .before .before .before .before .args .total) (c .before .before .before .before .before .before .before .before .before .before .before .before .before .before .u32-at .result) (c .before .before .before .before .before .before .before .before .before .before .u32-at2 .result) (c .before .before .before .before .before .before .part .result) (c .before .before .before .before .before .before .before .before .before .before .before .before .before .before .before .before .before .before .before .pre .1) (c .before .before .before .before .before .before .before .before .before .before .before .before .before .before .before .before .before .before .before .pre .2) (c .before .before .before .before .before .before .before .before .before .before .before .before .before .before .before .before .before .before .before .pre .3) (c .before .before .before .before .before .before .before .before .before .before .before .before .before .before .u32-at .ensures) (c .before .before .before .before .before .before .before .before .before .before .u32-at2 .ensures) (c .before .before .before .before .before .before .part .ensures) (c .before .before .put-tables .ensures)
 

@@ -1,5 +1,4 @@
-use mathlib.Core.Path.{_≡_, refl, sym, ap, _∙_}
-use native.Mathlib.Omega.{arith}
+use mathlib.Core.Path.{refl, ap, _∙_}
 use Prim.Native.Nat.{_+_, _/_}
 use mathlib.Core.Bool.{Bool}
 use Rattle.sampletable.specs.SampleTable.{kindOf, firstOf}
@@ -7,68 +6,46 @@ use Rattle.sampletable.proofs.Puts.{second-room, before-put}
 use borrow.Author.Needs.{needs}
 use Rattle.sampletable.proofs.put_before.Statement.{statement}
 use Rattle.sampletable.proofs.put_before.Tie as tie
-use Rattle.sampletable.proofs.put_before.Reads as reads
-use Rattle.sampletable.proofs.put_before.Lts as lts
-use Rattle.chunking.proofs.offsets.wide.Reads as wide-reads
-use Rattle.sampletable.proofs.behind.Reads as behind-reads
-use Rattle.sampletable.proofs.first.Reads as first-reads
-use Rattle.sampletable.proofs.kind.Reads as kind-reads
-use Rattle.sampletable.proofs.put_four.Reads as put-four-reads
-use Rattle.sampletable.proofs.put_second.Reads as put-second-reads
 
--- src/lib.rt:178:9
 wide-requires : tie.Need-wide-requires
 wide-requires c κs = search needs
 
--- src/lib.rt:179:9
 behind-requires : tie.Need-behind-requires
 behind-requires c κs = search needs
 
--- src/lib.rt:180:18
 add-total : tie.Need-add-total
 add-total c = search needs
 
--- src/lib.rt:180:18
 add-total-2 : tie.Need-add-total-2
 add-total-2 c = search needs
 
--- src/lib.rt:180:17
 cast-total : tie.Need-cast-total
 cast-total c = search needs
 
--- src/lib.rt:181:16
 cast-many : tie.Need-cast-many
 cast-many c = search needs
 
--- src/lib.rt:182:9
 first-requires : tie.Need-first-requires
 first-requires c κs = search needs
 
--- src/lib.rt:183:30
 kind-requires : tie.Need-kind-requires
 kind-requires c κs = search needs
 
--- src/lib.rt:183:5
 put-four-requires : tie.Need-put-four-requires
 put-four-requires c κs = search needs
 
--- src/lib.rt:184:28
 add-put-second : tie.Need-add-put-second
 add-put-second c = search needs
 
--- src/lib.rt:184:37
 cast-put-second : tie.Need-cast-put-second
 cast-put-second c = search needs
 
--- src/lib.rt:184:5
 put-second-requires : tie.Need-put-second-requires
 put-second-requires c κs = second-room (c .before .before .before .before .before .before .before .before .before .before .before .args .table) (c .before .before .before .before .before .before .before .before .before .before .before .args .n) (c .before .before .before .before .before .before .before .before .before .before .before .args .at) (16 + c .before .before .before .before .before .before .before .behind .result + c .before .before .before .before .before .before .before .before .before .before .before .args .bytes) (c .before .before .before .before .kind .result) 0 (c .before .before .before .before .before .before .first .result) (c .before .before .before .before .before .before .before .before .before .before .before .args .out .now) _ (c .before .before .before .put-four .ensures) (c .before .before .before .before .before .before .before .before .before .before .before .pre .4) (c .before .before .before .before .before .before .before .before .before .before .before .pre .5)
 
--- src/lib.rt:174:1
 same-length : tie.Need-same-length
 same-length c = search needs
 
--- src/lib.rt:174:1
 returns : tie.Need-returns
 returns c = before-put (c .before .before .before .before .before .before .before .before .before .before .before .before .before .before .args .table) (c .before .before .before .before .before .before .before .before .before .before .before .before .before .before .args .timescale) (c .before .before .before .before .before .before .before .before .before .before .before .before .before .before .args .records .now) (c .before .before .before .before .before .before .before .before .before .before .before .before .before .before .args .n) (c .before .before .before .before .before .before .before .before .before .before .before .before .before .before .args .out .now) _ _ (c .before .before .before .before .before .before .before .before .before .before .before .before .before .before .args .at) _ (c .before .before .before .before .before .before .before .kind .result) (c .before .before .before .before .before .before .before .before .before .first .result) (c .before .before .put-second .result) (c .before .before .before .before .before .before .before .before .before .before .behind .result) (c .before .before .before .before .before .before .before .before .before .before .before .before .before .before .args .bytes) (c .before .before .before .before .before .before .put-four .ensures) refl (c .before .before .before .before .before .before .before .before .before .before .behind .ensures) (c .before .before .before .before .before .before .before .before .before .before .before .before .before .before .pre .1) (c .before .before .before .before .before .before .before .kind .ensures ∙ ap (kindOf (c .before .before .before .before .before .before .before .before .before .before .before .before .before .before .args .table)) (c .before .before .before .before .before .before .before .before .before .before .before .wide .ensures)) _ refl (c .before .before .before .before .before .before .before .before .before .first .ensures ∙ ap (λ (w : Bool). firstOf (c .before .before .before .before .before .before .before .before .before .before .before .before .before .before .args .table) w (c .before .before .before .before .before .before .before .before .before .before .before .before .before .before .args .records .now) (c .before .before .before .before .before .before .before .before .before .before .before .before .before .before .args .n) (c .before .before .before .before .before .before .before .before .before .before .before .before .before .before .args .bytes / 4)) (c .before .before .before .before .before .before .before .before .before .before .before .wide .ensures)) (c .before .before .put-second .ensures)
 
