@@ -6,3 +6,4 @@ pub mod Tells
 pub mod Boxes
 pub mod Readings
 pub mod Stored
+pub mod Empty
