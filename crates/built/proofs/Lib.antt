@@ -7,3 +7,4 @@ pub mod Boxes
 pub mod Readings
 pub mod Stored
 pub mod Empty
+pub mod Judged
