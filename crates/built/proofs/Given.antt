@@ -25,7 +25,7 @@ pub length-words : (ns : List ℕ) → length (wordsOf ns) ≡ length ns * 4
 length-words [] = omega arith
 length-words (x ∷ ns) = omega (arith, length-append (bytes 4 x) (wordsOf ns), length-bytes 4 x, length-words ns)
 
-first-bytes : (es o : List ℕ) (n : ℕ) → n ≡ length es → n ≤ length o → take n (sets o 0 es) ≡ es
+pub first-bytes : (es o : List ℕ) (n : ℕ) → n ≡ length es → n ≤ length o → take n (sets o 0 es) ≡ es
 first-bytes es o n e h =
     ap (take n) (sets-eq es o 0 (omega arith)) ∙ take-at es (drop (0 + length es) o) n (sym e)
 

@@ -8,3 +8,4 @@ pub mod Readings
 pub mod Stored
 pub mod Empty
 pub mod Judged
+pub mod Heads
