@@ -9,3 +9,4 @@ pub mod Stored
 pub mod Empty
 pub mod Judged
 pub mod Heads
+pub mod Written
