@@ -27,16 +27,16 @@ use Rattle.sampletable.specs.SampleTable.{boxOf}
 use Rattle.built.specs.Written.{Gives}
 use Rattle.built.proofs.Given.{length-words, first-bytes}
 
--- the bytes before the entries
-abbrev one : List Field
-one = padded (Version 0 0 ∷ Flags ∷ Number 4 ∷ [])
-
-abbrev two : List Field
-two = padded (Version 0 0 ∷ Flags ∷ Number 4 ∷ Number 4 ∷ [])
+-- THE BYTES BEFORE THE ENTRIES
 
 one-number : (c : ℕ) → c < 2 ^ 32 → encode (padded (Version 0 0 ∷ Flags ∷ Number 4 ∷ [])) (slotted (0 ∷ 0 ∷ c ∷ [])) 0 0 0 ≡ made (bytes 4 0 ++ bytes 4 c)
 unfolding encode lay ruleOf when bytes
 one-number c h = simp (le-ltb c 0 (omega arith), le-ltb 4294967295 c (omega arith))
+
+-- ctts has a version 1 too
+shift-number : (c : ℕ) → c < 2 ^ 32 → encode (padded (Version 0 1 ∷ Flags ∷ Number 4 ∷ [])) (slotted (0 ∷ 0 ∷ c ∷ [])) 0 0 0 ≡ made (bytes 4 0 ++ bytes 4 c)
+unfolding encode lay ruleOf when bytes
+shift-number c h = simp (le-ltb c 0 (omega arith), le-ltb 4294967295 c (omega arith))
 
 two-numbers : (c d : ℕ) → c < 2 ^ 32 → d < 2 ^ 32 → encode (padded (Version 0 0 ∷ Flags ∷ Number 4 ∷ Number 4 ∷ [])) (slotted (0 ∷ 0 ∷ c ∷ d ∷ [])) 0 0 0 ≡ made (bytes 4 0 ++ (bytes 4 c ++ bytes 4 d))
 unfolding encode lay ruleOf when bytes
@@ -95,6 +95,11 @@ module _ (kind c : ℕ) (es : List ℕ) (h : c < 2 ^ 32) (k : length (boxOf kind
   table-gives size e =
       place-gives box _ (omega (arith, length-words (boxOf kind (c ∷ es))))
       (sym (is-eq _ _ _ (length (wordsOf es)) size (length-words es ∙ e) refl) ∙ one-written)
+
+  pub shifts-gives : (size : ℕ) → length es * 4 ≡ size → Gives (writeTable kind (padded (Version 0 1 ∷ Flags ∷ Number 4 ∷ [])) (slotted (0 ∷ 0 ∷ c ∷ [])) size (wordsOf es) box) box
+  shifts-gives size e =
+      place-gives box _ (omega (arith, length-words (boxOf kind (c ∷ es))))
+      (sym (is-eq _ _ _ (length (wordsOf es)) size (length-words es ∙ e) refl) ∙ ap (placed kind (wordsOf es) box) (shift-number c h) ∙ ap (place box) (one-box kind c es))
 
   pub judged-gives : (size : ℕ) (v : Judged) → length es * 4 ≡ size → v ≡ Fine → Gives (writeJudged kind (padded (Version 0 0 ∷ Flags ∷ Number 4 ∷ [])) (slotted (0 ∷ 0 ∷ c ∷ [])) size v (wordsOf es) box) box
   judged-gives size v e f =
