@@ -31,11 +31,10 @@ use Rattle.stsc.specs.Stsc as stsc
 use Rattle.stss.specs.Stss as stss
 
 word-is : (b pre post : List ℕ) (x at : ℕ) → b ≡ pre ++ (bytes 4 x ++ post) → at ≡ length pre → Small x → (at + 4 ≤ length b) × (x ≡ be 4 b at)
-word-is b pre post x at e a h =
-    (
-      omega (arith, ap length e, length-append pre (bytes 4 x ++ post), length-append (bytes 4 x) post, length-bytes 4 x),
-      sym (ap₂ (λ (l : List ℕ) (k : ℕ). be 4 l k) e a ∙ be-bytes 4 x pre post ∙ mod-eq-of-lt h),
-    )
+word-is b pre post x at e a h = (
+  omega (arith, ap length e, length-append pre (bytes 4 x ++ post), length-append (bytes 4 x) post, length-bytes 4 x),
+  sym (ap₂ (λ (l : List ℕ) (k : ℕ). be 4 l k) e a ∙ be-bytes 4 x pre post ∙ mod-eq-of-lt h),
+)
 
 -- a field that is whole and allowed, and what comes behind it
 cell-fine : (c : Cell) (cs : List Cell) (b : List ℕ) (at last x : ℕ) (z : Passed) → at + widthOf c ≤ length b → x ≡ be (widthOf c) b at → allowedOf c last x ≡ true

@@ -10,3 +10,4 @@ pub mod Empty
 pub mod Judged
 pub mod Heads
 pub mod Written
+mod Vectors

@@ -272,11 +272,12 @@ module _ (f : List ℕ) (l : List Sample) (w : All Of64 l) (scale : ℕ) (g : Re
       let ns = builder.runsOf rs n 4 in
       let e = stts-table scale rs n in
       let b = fits-box _ _ k e in
-      let even : length (builder.runsOf rs n 4) ≡ 2 * length (mergedOf (lowsOf rs n 4)) = length-pairs (mergedOf (lowsOf rs n 4)) in
-      (record { version = 0; flags = 0; count = length ns / 2 },
-      box-at f _ (builder.sttsOf rs n) _ ns (boxOf kinds.stts ((length ns / 2) ∷ ns)) at (stts-given scale rs n g)
-      (table-gives kinds.stts (length ns / 2) ns (omega (arith, b)) b (length ns / 2 * 2 * 4) (omega arith))
-      (span-there scale rs n true Stts at _ refl e) (subst (λ (x : List ℕ). Stands f at (wordsOf x)) e s))
+      let even : length (builder.runsOf rs n 4) ≡ 2 * length (mergedOf (lowsOf rs n 4)) = length-pairs (mergedOf (lowsOf rs n 4)) in (
+        record { version = 0; flags = 0; count = length ns / 2 },
+        box-at f _ (builder.sttsOf rs n) _ ns (boxOf kinds.stts ((length ns / 2) ∷ ns)) at (stts-given scale rs n g)
+            (table-gives kinds.stts (length ns / 2) ns (omega (arith, b)) b (length ns / 2 * 2 * 4) (omega arith))
+            (span-there scale rs n true Stts at _ refl e) (subst (λ (x : List ℕ). Stands f at (wordsOf x)) e s),
+      )
 
   ctts-at : Fits32 (tableOf Ctts scale rs n) → Stands f at (wordsOf (tableOf Ctts scale rs n)) → CttsAt f l (spanIf scale rs n (isThere Ctts rs n) Ctts at)
   unfolding when
@@ -311,11 +312,12 @@ module _ (f : List ℕ) (l : List Sample) (w : All Of64 l) (scale : ℕ) (g : Re
       let ns = chunking.groupsIn scale rs n in
       let e = stsc-table scale rs n in
       let b = fits-box _ _ k e in
-      let three : length (chunking.groupsIn scale rs n) ≡ 3 * length (mergedOf (chunking.countsOf (chunksIn scale rs n))) = length-groups 1 (mergedOf (chunking.countsOf (chunksIn scale rs n))) in
-      (record { version = 0; flags = 0; count = length ns / 3 },
-      box-at f _ (chunking.stscOf scale rs n) _ ns (boxOf kinds.stsc ((length ns / 3) ∷ ns)) at (stsc-given scale rs n g)
-      (judged-gives kinds.stsc (length ns / 3) ns (omega (arith, b)) b (length ns / 3 * 12) _ (omega arith) stsc-fine)
-      (span-there scale rs n true Stsc at _ refl e) (subst (λ (x : List ℕ). Stands f at (wordsOf x)) e s))
+      let three : length (chunking.groupsIn scale rs n) ≡ 3 * length (mergedOf (chunking.countsOf (chunksIn scale rs n))) = length-groups 1 (mergedOf (chunking.countsOf (chunksIn scale rs n))) in (
+        record { version = 0; flags = 0; count = length ns / 3 },
+        box-at f _ (chunking.stscOf scale rs n) _ ns (boxOf kinds.stsc ((length ns / 3) ∷ ns)) at (stsc-given scale rs n g)
+            (judged-gives kinds.stsc (length ns / 3) ns (omega (arith, b)) b (length ns / 3 * 12) _ (omega arith) stsc-fine)
+            (span-there scale rs n true Stsc at _ refl e) (subst (λ (x : List ℕ). Stands f at (wordsOf x)) e s),
+      )
 
   chunks-at : Fits32 (tableOf Offsets scale rs n) → Stands f at (wordsOf (tableOf Offsets scale rs n))
       → ChunksAt f l scale (spanIf scale rs n (not (wideIn scale rs n)) Offsets at) (spanIf scale rs n (wideIn scale rs n) Offsets at)
