@@ -30,7 +30,7 @@ use Rattle.chunking.proofs.Bytes.{Fit}
 use Rattle.stsc.specs.Stsc as stsc
 use Rattle.stss.specs.Stss as stss
 
-word-is : (b pre post : List ℕ) (x at : ℕ) → b ≡ pre ++ (bytes 4 x ++ post) → at ≡ length pre → Small x → (at + 4 ≤ length b) × (x ≡ be 4 b at)
+pub word-is : (b pre post : List ℕ) (x at : ℕ) → b ≡ pre ++ (bytes 4 x ++ post) → at ≡ length pre → Small x → (at + 4 ≤ length b) × (x ≡ be 4 b at)
 word-is b pre post x at e a h = (
   omega (arith, ap length e, length-append pre (bytes 4 x ++ post), length-append (bytes 4 x) post, length-bytes 4 x),
   sym (ap₂ (λ (l : List ℕ) (k : ℕ). be 4 l k) e a ∙ be-bytes 4 x pre post ∙ mod-eq-of-lt h),

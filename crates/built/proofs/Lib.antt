@@ -11,3 +11,4 @@ pub mod Judged
 pub mod Heads
 pub mod Written
 mod Vectors
+pub mod Find

@@ -69,10 +69,10 @@ use Rattle.built.proofs.Stored.{stored-reads-back}
 
 -- STANDING
 
-stands-left : (f a b : List ℕ) (at : ℕ) → Stands f at (a ++ b) → Stands f at a
+pub stands-left : (f a b : List ℕ) (at : ℕ) → Stands f at (a ++ b) → Stands f at a
 stands-left f a b at s = record { before = s .before; behind = b ++ s .behind; there = s .there ∙ ap (λ (x : List ℕ). s .before ++ x) (append-assoc a b (s .behind)); place = s .place }
 
-stands-right : (f a b : List ℕ) (at to : ℕ) → to ≡ at + length a → Stands f at (a ++ b) → Stands f to b
+pub stands-right : (f a b : List ℕ) (at to : ℕ) → to ≡ at + length a → Stands f at (a ++ b) → Stands f to b
 stands-right f a b at to e s =
     record {
       before = s .before ++ a;
@@ -85,7 +85,7 @@ words-append : (a b : List ℕ) → wordsOf (a ++ b) ≡ wordsOf a ++ wordsOf b
 words-append [] b = refl
 words-append (x ∷ a) b = ap (λ (l : List ℕ). bytes 4 x ++ l) (words-append a b) ∙ sym (append-assoc (bytes 4 x) (wordsOf a) (wordsOf b))
 
-split : (f a b : List ℕ) (at : ℕ) → Stands f at (wordsOf (a ++ b)) → (Stands f at (wordsOf a)) × (Stands f (at + length a * 4) (wordsOf b))
+pub split : (f a b : List ℕ) (at : ℕ) → Stands f at (wordsOf (a ++ b)) → (Stands f at (wordsOf a)) × (Stands f (at + length a * 4) (wordsOf b))
 split f a b at s =
     let t : Stands f at (wordsOf a ++ wordsOf b) = subst (λ (l : List ℕ). Stands f at l) (words-append a b) s in
     (stands-left f (wordsOf a) (wordsOf b) at t, stands-right f (wordsOf a) (wordsOf b) at (at + length a * 4) (ap (λ (k : ℕ). at + k) (sym (length-words a))) t)
@@ -422,12 +422,12 @@ module _ (f : List ℕ) (l : List Sample) (w : All Of64 l) (scale : ℕ) (g : Re
       }
 
 -- the writer does not refuse: no builder does, and these are the bytes
-record Wrote32 (scale : ℕ) (rs : List ℕ) (n : ℕ) (stsd : List ℕ) (bs : List ℕ) : Type 0 where
-  ready : Ready scale rs n
-  small : length (stblOf scale rs n stsd) < 2 ^ 32
-  bytes : bs ≡ stblOf scale rs n stsd
+pub record Wrote32 (scale : ℕ) (rs : List ℕ) (n : ℕ) (stsd : List ℕ) (bs : List ℕ) : Type 0 where
+  pub ready : Ready scale rs n
+  pub small : length (stblOf scale rs n stsd) < 2 ^ 32
+  pub bytes : bs ≡ stblOf scale rs n stsd
 
-written-given : (scale : ℕ) (rs : List ℕ) (n : ℕ) (stsd o out : List ℕ) (k : ℕ) → stblIn scale rs n stsd o ≡ wrote (Done k) out → Wrote32 scale rs n stsd (take k out)
+pub written-given : (scale : ℕ) (rs : List ℕ) (n : ℕ) (stsd o out : List ℕ) (k : ℕ) → stblIn scale rs n stsd o ≡ wrote (Done k) out → Wrote32 scale rs n stsd (take k out)
 written-given scale rs n stsd o out k e =
     let bs = stblOf scale rs n stsd in
     let x₄ = place o bs in
