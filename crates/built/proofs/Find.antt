@@ -40,9 +40,12 @@ use Rattle.stbl.specs.declared.Places.the-variants as places
 use Rattle.sampletable.specs.declared.Table.{Table}
 use Rattle.sampletable.specs.declared.Table.the-variants.{Stts, Ctts, Stsc, Stsz, Offsets, Stss}
 use Rattle.sampletable.specs.SampleTable.{wideIn, listOf, kindOf, isThere, headOf, tableOf, tablesOf, boxOf, stblOf}
+use Rattle.sampletable.proofs.Puts.{tables-length}
+use Rattle.sampletable.proofs.Whole.{length-stbl}
 use Rattle.built.specs.Written.{Stands}
 use Rattle.built.specs.Places.{behind, spanIf, boxesFrom, boxesAt}
 use Rattle.built.proofs.Given.{length-words}
+use Rattle.built.proofs.Heads.{place-gives}
 use Rattle.built.proofs.Judged.{word-is}
 use Rattle.built.proofs.Written.{split, stands-left, stands-right}
 
@@ -122,3 +125,150 @@ module _ (scale : ℕ) (rs : List ℕ) (n : ℕ) (s : List ℕ) (t : Table) (at 
           let none : [] ≡ tableOf t scale rs n = by-false (boxOf kind ns) [] [] (isThere t rs n) e refl in
           let same : at ≡ behind scale rs n t at = omega (arith, ap length none) in
           ap (rowOf fuel s) same ∙ by-false _ _ _ (isThere t rs n) e refl
+
+-- THE BOXES OF A TABLE
+
+-- which are there: ctts by c, co64 for stco by w, stss by y
+abbrev rowAll : Bool → Bool → Bool → ℕ → ℕ → ℕ → ℕ → ℕ → ℕ → Row
+rowAll c w y a₁ a₂ a₃ a₄ a₅ a₆ =
+    box kinds.stsd 8
+    (box kinds.stts a₁ (rowIf c kinds.ctts a₂ (box kinds.stsc a₃ (box kinds.stsz a₄ (box (when w kinds.co64 kinds.stco) a₅ (rowIf y kinds.stss a₆ end))))))
+
+record Finds (c w y : Bool) (a₁ a₂ a₃ a₄ a₅ a₆ : ℕ) : Type 0 where
+  stts : firstIn kinds.stts (rowAll c w y a₁ a₂ a₃ a₄ a₅ a₆) ≡ when true (child.At a₁) child.Absent
+  ctts : firstIn kinds.ctts (rowAll c w y a₁ a₂ a₃ a₄ a₅ a₆) ≡ when c (child.At a₂) child.Absent
+  stsc : firstIn kinds.stsc (rowAll c w y a₁ a₂ a₃ a₄ a₅ a₆) ≡ when true (child.At a₃) child.Absent
+  stsz : firstIn kinds.stsz (rowAll c w y a₁ a₂ a₃ a₄ a₅ a₆) ≡ when true (child.At a₄) child.Absent
+  stco : firstIn kinds.stco (rowAll c w y a₁ a₂ a₃ a₄ a₅ a₆) ≡ when (not w) (child.At a₅) child.Absent
+  co64 : firstIn kinds.co64 (rowAll c w y a₁ a₂ a₃ a₄ a₅ a₆) ≡ when w (child.At a₅) child.Absent
+  stss : firstIn kinds.stss (rowAll c w y a₁ a₂ a₃ a₄ a₅ a₆) ≡ when y (child.At a₆) child.Absent
+  fine : wholeIn (rowAll c w y a₁ a₂ a₃ a₄ a₅ a₆) ≡ Fine
+
+all-found : (c w y : Bool) (a₁ a₂ a₃ a₄ a₅ a₆ : ℕ) → Finds c w y a₁ a₂ a₃ a₄ a₅ a₆
+unfolding firstIn wholeIn when
+all-found true true true a₁ a₂ a₃ a₄ a₅ a₆ = record { stts = refl; ctts = refl; stsc = refl; stsz = refl; stco = refl; co64 = refl; stss = refl; fine = refl }
+all-found true true false a₁ a₂ a₃ a₄ a₅ a₆ = record { stts = refl; ctts = refl; stsc = refl; stsz = refl; stco = refl; co64 = refl; stss = refl; fine = refl }
+all-found true false true a₁ a₂ a₃ a₄ a₅ a₆ = record { stts = refl; ctts = refl; stsc = refl; stsz = refl; stco = refl; co64 = refl; stss = refl; fine = refl }
+all-found true false false a₁ a₂ a₃ a₄ a₅ a₆ = record { stts = refl; ctts = refl; stsc = refl; stsz = refl; stco = refl; co64 = refl; stss = refl; fine = refl }
+all-found false true true a₁ a₂ a₃ a₄ a₅ a₆ = record { stts = refl; ctts = refl; stsc = refl; stsz = refl; stco = refl; co64 = refl; stss = refl; fine = refl }
+all-found false true false a₁ a₂ a₃ a₄ a₅ a₆ = record { stts = refl; ctts = refl; stsc = refl; stsz = refl; stco = refl; co64 = refl; stss = refl; fine = refl }
+all-found false false true a₁ a₂ a₃ a₄ a₅ a₆ = record { stts = refl; ctts = refl; stsc = refl; stsz = refl; stco = refl; co64 = refl; stss = refl; fine = refl }
+all-found false false false a₁ a₂ a₃ a₄ a₅ a₆ = record { stts = refl; ctts = refl; stsc = refl; stsz = refl; stco = refl; co64 = refl; stss = refl; fine = refl }
+
+-- the span of the first of a type
+span-is : (s : List ℕ) (kind size at h : ℕ) (b : Bool) (r : Row) → childrenOf kinds.stbl s ≡ r → firstIn kind r ≡ when b (child.At at) child.Absent → (b ≡ true → headerOf s at false ≡ header-found.Is (header h size 8))
+    → spanOf kind s ≡ when b (span.At at size) span.Absent
+unfolding when
+span-is s kind size at h b r e q k = ap (λ (x : Row). spanIn s (children.placed (firstIn kind x))) e ∙ ap (λ (x : Child). spanIn s (children.placed x)) q ∙ cases b k
+  where
+    cases : (b : Bool) → (b ≡ true → headerOf s at false ≡ header-found.Is (header h size 8)) → spanIn s (children.placed (when b (child.At at) child.Absent)) ≡ when b (span.At at size) span.Absent
+    cases true k = ap (spanBy at) (k refl)
+    cases false k = refl
+
+no-fields : encode children.fields (zeros 24) 0 0 0 ≡ made []
+unfolding encode lay ruleOf when bytes
+no-fields = refl
+
+-- the boxes in a container that is written lie behind its header
+children-are : (tail : List ℕ) → length (full kinds.stbl [] tail) < 2 ^ 32 → childrenOf kinds.stbl (full kinds.stbl [] tail) ≡ rowOf (length (full kinds.stbl [] tail) - 8) (full kinds.stbl [] tail) 8
+unfolding when
+children-are tail h =
+    let s = full kinds.stbl [] tail in
+    let g = place-gives s (writeOf kinds.stbl children.fields (zeros 24) tail s) h (ap (placed kinds.stbl tail s) no-fields) in
+    let p = reads-back kinds.stbl children.fields (zeros 24) tail s (g .size) (g .buffer) (omega arith) (g .done) in
+    let size = 8 + 0 + length tail in
+    let ls : length (full kinds.stbl [] tail) ≡ 8 + length tail =
+    omega (arith, length-append (bytes 4 size ++ bytes 4 kinds.stbl ++ []) tail, length-append (bytes 4 size ++ bytes 4 kinds.stbl) [], length-append (bytes 4 size) (bytes 4 kinds.stbl), length-bytes 4 size, length-bytes 4 kinds.stbl) in
+    let e : p .0 ≡ 8 = omega (arith, p .3, ap length (g .bytes)) in
+    let r : readOf kinds.stbl children.fields (full kinds.stbl [] tail) ≡ fieldsIn (length (full kinds.stbl [] tail)) 8 (firsts (slots children.fields) 0 (zeros 24)) =
+    sym (ap (readOf kinds.stbl children.fields) (g .bytes)) ∙ p .1 ∙ ap₂ (λ (b : List ℕ) (k : ℕ). fieldsIn (length b) k (firsts (slots children.fields) 0 (zeros 24))) (g .bytes) e in
+    ap (inside s) r ∙ ap (λ (b : List ℕ). rowOf (length b - 8) b 8) (take-length s)
+
+rows-are : (scale : ℕ) (rs : List ℕ) (n : ℕ) (a₁ a₂ a₃ a₄ a₅ a₆ : ℕ) →
+    box kinds.stsd 8 (rowIf (isThere Stts rs n) (kindOf Stts (wideIn scale rs n)) a₁ (rowIf (isThere Ctts rs n) (kindOf Ctts (wideIn scale rs n)) a₂ (rowIf (isThere Stsc rs n) (kindOf Stsc (wideIn scale rs n)) a₃
+    (rowIf (isThere Stsz rs n) (kindOf Stsz (wideIn scale rs n)) a₄ (rowIf (isThere Offsets rs n) (kindOf Offsets (wideIn scale rs n)) a₅ (rowIf (isThere Stss rs n) (kindOf Stss (wideIn scale rs n)) a₆ end))))))
+    ≡ rowAll (isThere Ctts rs n) (wideIn scale rs n) (isThere Stss rs n) a₁ a₂ a₃ a₄ a₅ a₆
+unfolding isThere kindOf when
+rows-are scale rs n a₁ a₂ a₃ a₄ a₅ a₆ = refl
+
+always-there : (rs : List ℕ) (n : ℕ) → (isThere Stts rs n ≡ true) × (isThere Stsc rs n ≡ true) × (isThere Stsz rs n ≡ true) × (isThere Offsets rs n ≡ true)
+unfolding isThere
+always-there rs n = (refl, refl, refl, refl)
+
+all-spans : (x₁ x₂ x₃ x₄ x₅ x₆ x₇ y₁ y₂ y₃ y₄ y₅ y₆ y₇ : Span) → x₁ ≡ y₁ → x₂ ≡ y₂ → x₃ ≡ y₃ → x₄ ≡ y₄ → x₅ ≡ y₅ → x₆ ≡ y₆ → x₇ ≡ y₇ →
+    _≡_ {A = Boxes} (record { stts = x₁; ctts = x₂; stsc = x₃; stsz = x₄; stco = x₅; co64 = x₆; stss = x₇ }) (record { stts = y₁; ctts = y₂; stsc = y₃; stsz = y₄; stco = y₅; co64 = y₆; stss = y₇ })
+all-spans x₁ x₂ x₃ x₄ x₅ x₆ x₇ y₁ y₂ y₃ y₄ y₅ y₆ y₇ e₁ e₂ e₃ e₄ e₅ e₆ e₇ = cc
+
+module _ (scale : ℕ) (rs : List ℕ) (n : ℕ) (stsd rest : List ℕ) (d : stsd ≡ bytes 4 (length stsd) ++ (bytes 4 kinds.stsd ++ rest)) (small : length (stblOf scale rs n stsd) < 2 ^ 32) where
+  -- the sample descriptions are a box, and `boxesAt` says where the others are
+  pub written-found : boxesOf (stblOf scale rs n stsd) ≡ places.Are (boxesAt 0 scale rs n stsd)
+  written-found =
+      let s = stblOf scale rs n stsd in
+      let T : Table → List ℕ = λ (t : Table). tableOf t scale rs n in
+      let ws = wordsOf (tablesOf scale rs n) in
+      let size = 8 + 0 + length (stsd ++ ws) in
+      let head = bytes 4 size ++ bytes 4 kinds.stbl ++ [] in
+      let lh : length (bytes 4 (8 + 0 + length (stsd ++ wordsOf (tablesOf scale rs n))) ++ bytes 4 kinds.stbl ++ []) ≡ 8 =
+      length-append (bytes 4 size ++ bytes 4 kinds.stbl) [] ∙ (let z : length (bytes 4 (8 + 0 + length (stsd ++ wordsOf (tablesOf scale rs n))) ++ bytes 4 kinds.stbl) + 0 ≡ 8 = omega (arith, length-append (bytes 4 size) (bytes 4 kinds.stbl), length-bytes 4 size, length-bytes 4 kinds.stbl) in z) in
+      let ls : length (stblOf scale rs n stsd) ≡ 8 + length stsd + length (tablesOf scale rs n) * 4 = length-stbl scale rs n stsd in
+      let lt = tables-length scale rs n _ _ _ _ _ _ refl refl refl refl refl refl in
+      let s₀ : Stands s 0 (head ++ (stsd ++ ws)) = record { before = []; behind = []; there = sym (append-nil s); place = refl } in
+      let sd : Stands s 8 (stsd ++ ws) = stands-right s head (stsd ++ ws) 0 8 (omega (arith, lh)) s₀ in
+      let a₁ = 0 + (8 + length stsd) in
+      let a₂ = behind scale rs n Stts a₁ in
+      let a₃ = behind scale rs n Ctts a₂ in
+      let a₄ = behind scale rs n Stsc a₃ in
+      let a₅ = behind scale rs n Stsz a₄ in
+      let a₆ = behind scale rs n Offsets a₅ in
+      let x₁ : Stands s a₁ (wordsOf (tablesOf scale rs n)) = stands-right s stsd ws 8 a₁ (omega arith) sd in
+      let r₆ = T Stss in
+      let r₅ = T Offsets ++ r₆ in
+      let r₄ = T Stsz ++ r₅ in
+      let r₃ = T Stsc ++ r₄ in
+      let r₂ = T Ctts ++ r₃ in
+      let y₁ = split s (T Stts) r₂ a₁ x₁ in
+      let y₂ = split s (T Ctts) r₃ a₂ (y₁ .1) in
+      let y₃ = split s (T Stsc) r₄ a₃ (y₂ .1) in
+      let y₄ = split s (T Stsz) r₅ a₄ (y₃ .1) in
+      let y₅ = split s (T Offsets) r₆ a₅ (y₄ .1) in
+      let f₁ : length (tableOf Stts scale rs n) * 4 < 2 ^ 32 = omega (arith, small, ls, lt) in
+      let f₂ : length (tableOf Ctts scale rs n) * 4 < 2 ^ 32 = omega (arith, small, ls, lt) in
+      let f₃ : length (tableOf Stsc scale rs n) * 4 < 2 ^ 32 = omega (arith, small, ls, lt) in
+      let f₄ : length (tableOf Stsz scale rs n) * 4 < 2 ^ 32 = omega (arith, small, ls, lt) in
+      let f₅ : length (tableOf Offsets scale rs n) * 4 < 2 ^ 32 = omega (arith, small, ls, lt) in
+      let f₆ : length (tableOf Stss scale rs n) * 4 < 2 ^ 32 = omega (arith, small, ls, lt) in
+      let fuel = length (stblOf scale rs n stsd) - 8 in
+      let ld : length stsd ≡ 8 + length rest = ap length d ∙ (let z : length (bytes 4 (length stsd) ++ (bytes 4 kinds.stsd ++ rest)) ≡ 8 + length rest = omega (arith, length-append (bytes 4 (length stsd)) (bytes 4 kinds.stsd ++ rest), length-append (bytes 4 kinds.stsd) rest, length-bytes 4 (length stsd), length-bytes 4 kinds.stsd) in z) in
+      let hd : headerOf s 8 false ≡ header-found.Is (header kinds.stsd (length stsd) 8) =
+      header-at s (sd .before) (rest ++ ws ++ sd .behind) kinds.stsd (length stsd) 8
+      (sd .there ∙ ap (λ (y : List ℕ). sd .before ++ y) (ap (λ (y : List ℕ). y ++ ws ++ sd .behind) d ∙ ap (λ (y : List ℕ). y ++ sd .behind) (append-assoc (bytes 4 (length stsd)) (bytes 4 kinds.stsd ++ rest) ws ∙ ap (λ (y : List ℕ). bytes 4 (length stsd) ++ y) (append-assoc (bytes 4 kinds.stsd) rest ws)) ∙ append-assoc (bytes 4 (length stsd)) (bytes 4 kinds.stsd ++ (rest ++ ws)) (sd .behind) ∙ ap (λ (y : List ℕ). bytes 4 (length stsd) ++ y) (append-assoc (bytes 4 kinds.stsd) (rest ++ ws) (sd .behind))))
+      (sd .place) (omega arith) (omega (arith, ld)) (omega (arith, small, ls)) (omega (arith, ls)) in
+      let row : childrenOf kinds.stbl s ≡ rowAll (isThere Ctts rs n) (wideIn scale rs n) (isThere Stss rs n) a₁ a₂ a₃ a₄ a₅ a₆ =
+      children-are (stsd ++ ws) small
+      ∙ next-row s 8 fuel kinds.stsd (length stsd) hd (omega (arith, ls, ld)) (omega (arith, ld)) (omega arith)
+      ∙ ap (box kinds.stsd 8)
+        (ap (rowOf fuel s) (let z : 8 + length stsd ≡ 0 + (8 + length stsd) = omega arith in z)
+        ∙ table-row scale rs n s Stts a₁ (y₁ .0) f₁ fuel (omega arith)
+        ∙ ap (rowIf (isThere Stts rs n) (kindOf Stts (wideIn scale rs n)) a₁)
+          (table-row scale rs n s Ctts a₂ (y₂ .0) f₂ fuel (omega arith)
+          ∙ ap (rowIf (isThere Ctts rs n) (kindOf Ctts (wideIn scale rs n)) a₂)
+            (table-row scale rs n s Stsc a₃ (y₃ .0) f₃ fuel (omega arith)
+            ∙ ap (rowIf (isThere Stsc rs n) (kindOf Stsc (wideIn scale rs n)) a₃)
+              (table-row scale rs n s Stsz a₄ (y₄ .0) f₄ fuel (omega arith)
+              ∙ ap (rowIf (isThere Stsz rs n) (kindOf Stsz (wideIn scale rs n)) a₄)
+                (table-row scale rs n s Offsets a₅ (y₅ .0) f₅ fuel (omega arith)
+                ∙ ap (rowIf (isThere Offsets rs n) (kindOf Offsets (wideIn scale rs n)) a₅)
+                  (table-row scale rs n s Stss a₆ (y₅ .1) f₆ fuel (omega arith)
+                  ∙ ap (rowIf (isThere Stss rs n) (kindOf Stss (wideIn scale rs n)) a₆) (no-row s (behind scale rs n Stss a₆) fuel (omega (arith, ls, lt)))))))))
+      ∙ rows-are scale rs n a₁ a₂ a₃ a₄ a₅ a₆ in
+      let q = all-found (isThere Ctts rs n) (wideIn scale rs n) (isThere Stss rs n) a₁ a₂ a₃ a₄ a₅ a₆ in
+      let th = always-there rs n in
+      let b₁ = span-is s kinds.stts (length (T Stts) * 4) a₁ _ true _ row (q .stts) (λ z. table-header scale rs n s Stts a₁ (y₁ .0) f₁ (th .0)) in
+      let b₂ = span-is s kinds.ctts (length (T Ctts) * 4) a₂ _ (isThere Ctts rs n) _ row (q .ctts) (λ z. table-header scale rs n s Ctts a₂ (y₂ .0) f₂ z) in
+      let b₃ = span-is s kinds.stsc (length (T Stsc) * 4) a₃ _ true _ row (q .stsc) (λ z. table-header scale rs n s Stsc a₃ (y₃ .0) f₃ (th .1)) in
+      let b₄ = span-is s kinds.stsz (length (T Stsz) * 4) a₄ _ true _ row (q .stsz) (λ z. table-header scale rs n s Stsz a₄ (y₄ .0) f₄ (th .2)) in
+      let b₅ = span-is s kinds.stco (length (T Offsets) * 4) a₅ _ (not (wideIn scale rs n)) _ row (q .stco) (λ z. table-header scale rs n s Offsets a₅ (y₅ .0) f₅ (th .3)) in
+      let b₆ = span-is s kinds.co64 (length (T Offsets) * 4) a₅ _ (wideIn scale rs n) _ row (q .co64) (λ z. table-header scale rs n s Offsets a₅ (y₅ .0) f₅ (th .3)) in
+      let b₇ = span-is s kinds.stss (length (T Stss) * 4) a₆ _ (isThere Stss rs n) _ row (q .stss) (λ z. table-header scale rs n s Stss a₆ (y₅ .1) f₆ z) in
+      let boxes : boxesIn (stblOf scale rs n stsd) ≡ boxesAt 0 scale rs n stsd = all-spans _ _ _ _ _ _ _ _ _ _ _ _ _ _ b₁ b₂ b₃ b₄ b₅ b₆ b₇ in
+      ap (settle (places.Are (boxesIn s)) places.Refused) (ap wholeIn row ∙ q .fine) ∙ ap places.Are boxes

@@ -43,7 +43,7 @@ unfolding encode lay ruleOf when bytes
 two-numbers c d h k = simp (le-ltb c 0 (omega arith), le-ltb 4294967295 c (omega arith), le-ltb d 0 (omega arith), le-ltb 4294967295 d (omega arith))
 
 -- a buffer that is just as long gets the bytes
-place-gives : (bs : List ℕ) (x : Wrote) → length bs < 2 ^ 32 → x ≡ place bs bs → Gives x bs
+pub place-gives : (bs : List ℕ) (x : Wrote) → length bs < 2 ^ 32 → x ≡ place bs bs → Gives x bs
 place-gives bs x h e =
     record {
       size = length bs;
