@@ -30,24 +30,31 @@ use Rattle.children.specs.Children.{Row, end, box, rowOf, firstIn, wholeIn, hea
 use Rattle.children.specs.declared.Child.{Child}
 use Rattle.children.specs.declared.Child.the-variants as child
 use Rattle.children.proofs.Turns.{enough}
+use Rattle.samples.specs.declared.Sample.{Sample}
+use Rattle.samples.specs.Records.{recordsOf}
+use Rattle.tables.specs.Samples.{samplesOf}
+use Rattle.tables.specs.declared.Track.{Track}
+use Rattle.merging.proofs.Rows.{All}
 use Rattle.columns.specs.Entries.{wordsOf}
+use Rattle.builder.proofs.Back.{Numbered}
 use Rattle.builder.proofs.Bytes.{Small}
-use Rattle.stbl.specs.Stbl.{spanBy, spanAt, spanIn, spanOf, boxesIn, boxesOf}
+use Rattle.stbl.specs.Stbl.{spanBy, spanIn, spanOf, boxesIn, boxesOf, trackOf}
+use Rattle.stbl.specs.declared.Found.the-variants as found
 use Rattle.stbl.specs.declared.Boxes.{Boxes}
 use Rattle.stbl.specs.declared.Span.{Span}
 use Rattle.stbl.specs.declared.Span.the-variants as span
 use Rattle.stbl.specs.declared.Places.the-variants as places
 use Rattle.sampletable.specs.declared.Table.{Table}
 use Rattle.sampletable.specs.declared.Table.the-variants.{Stts, Ctts, Stsc, Stsz, Offsets, Stss}
-use Rattle.sampletable.specs.SampleTable.{wideIn, listOf, kindOf, isThere, headOf, tableOf, tablesOf, boxOf, stblOf}
+use Rattle.sampletable.specs.SampleTable.{wideIn, listOf, kindOf, isThere, headOf, tableOf, tablesOf, boxOf, stblOf, stblIn}
 use Rattle.sampletable.proofs.Puts.{tables-length}
 use Rattle.sampletable.proofs.Whole.{length-stbl}
-use Rattle.built.specs.Written.{Stands}
+use Rattle.built.specs.Written.{Stands, Of64}
 use Rattle.built.specs.Places.{behind, spanIf, boxesFrom, boxesAt}
 use Rattle.built.proofs.Given.{length-words}
 use Rattle.built.proofs.Heads.{place-gives}
 use Rattle.built.proofs.Judged.{word-is}
-use Rattle.built.proofs.Written.{split, stands-left, stands-right}
+use Rattle.built.proofs.Written.{split, stands-right, written-given, written-reads-back}
 
 -- A HEADER
 
@@ -191,6 +198,14 @@ rows-are : (scale : ℕ) (rs : List ℕ) (n : ℕ) (a₁ a₂ a₃ a₄ a₅ a�
 unfolding isThere kindOf when
 rows-are scale rs n a₁ a₂ a₃ a₄ a₅ a₆ = refl
 
+-- a box is two numbers and what comes behind them
+box-first : (s pre b size kind rest more post : List ℕ) → s ≡ pre ++ (b ++ more ++ post) → b ≡ size ++ (kind ++ rest) → s ≡ pre ++ (size ++ (kind ++ (rest ++ more ++ post)))
+box-first s pre b size kind rest more post e d =
+    e
+    ∙ ap (λ (y : List ℕ). pre ++ (y ++ more ++ post)) d
+    ∙ ap (λ (y : List ℕ). pre ++ (y ++ post)) (append-assoc size (kind ++ rest) more ∙ ap (λ (y : List ℕ). size ++ y) (append-assoc kind rest more))
+    ∙ ap (λ (y : List ℕ). pre ++ y) (append-assoc size (kind ++ (rest ++ more)) post ∙ ap (λ (y : List ℕ). size ++ y) (append-assoc kind (rest ++ more) post))
+
 always-there : (rs : List ℕ) (n : ℕ) → (isThere Stts rs n ≡ true) × (isThere Stsc rs n ≡ true) × (isThere Stsz rs n ≡ true) × (isThere Offsets rs n ≡ true)
 unfolding isThere
 always-there rs n = (refl, refl, refl, refl)
@@ -241,7 +256,7 @@ module _ (scale : ℕ) (rs : List ℕ) (n : ℕ) (stsd rest : List ℕ) (d : sts
       let ld : length stsd ≡ 8 + length rest = ap length d ∙ (let z : length (bytes 4 (length stsd) ++ (bytes 4 kinds.stsd ++ rest)) ≡ 8 + length rest = omega (arith, length-append (bytes 4 (length stsd)) (bytes 4 kinds.stsd ++ rest), length-append (bytes 4 kinds.stsd) rest, length-bytes 4 (length stsd), length-bytes 4 kinds.stsd) in z) in
       let hd : headerOf s 8 false ≡ header-found.Is (header kinds.stsd (length stsd) 8) =
       header-at s (sd .before) (rest ++ ws ++ sd .behind) kinds.stsd (length stsd) 8
-      (sd .there ∙ ap (λ (y : List ℕ). sd .before ++ y) (ap (λ (y : List ℕ). y ++ ws ++ sd .behind) d ∙ ap (λ (y : List ℕ). y ++ sd .behind) (append-assoc (bytes 4 (length stsd)) (bytes 4 kinds.stsd ++ rest) ws ∙ ap (λ (y : List ℕ). bytes 4 (length stsd) ++ y) (append-assoc (bytes 4 kinds.stsd) rest ws)) ∙ append-assoc (bytes 4 (length stsd)) (bytes 4 kinds.stsd ++ (rest ++ ws)) (sd .behind) ∙ ap (λ (y : List ℕ). bytes 4 (length stsd) ++ y) (append-assoc (bytes 4 kinds.stsd) (rest ++ ws) (sd .behind))))
+      (box-first s (sd .before) stsd (bytes 4 (length stsd)) (bytes 4 kinds.stsd) rest ws (sd .behind) (sd .there) d)
       (sd .place) (omega arith) (omega (arith, ld)) (omega (arith, small, ls)) (omega (arith, ls)) in
       let row : childrenOf kinds.stbl s ≡ rowAll (isThere Ctts rs n) (wideIn scale rs n) (isThere Stss rs n) a₁ a₂ a₃ a₄ a₅ a₆ =
       children-are (stsd ++ ws) small
@@ -272,3 +287,18 @@ module _ (scale : ℕ) (rs : List ℕ) (n : ℕ) (stsd rest : List ℕ) (d : sts
       let b₇ = span-is s kinds.stss (length (T Stss) * 4) a₆ _ (isThere Stss rs n) _ row (q .stss) (λ z. table-header scale rs n s Stss a₆ (y₅ .1) f₆ z) in
       let boxes : boxesIn (stblOf scale rs n stsd) ≡ boxesAt 0 scale rs n stsd = all-spans _ _ _ _ _ _ _ _ _ _ _ _ _ _ b₁ b₂ b₃ b₄ b₅ b₆ b₇ in
       ap (settle (places.Are (boxesIn s)) places.Refused) (ap wholeIn row ∙ q .fine) ∙ ap places.Are boxes
+
+-- The theorem of the sample table's writer, by what it wrote alone: for every list of samples, numbered from 1 and each at
+-- the sum of the durations before it, that the writer does not refuse, and sample descriptions that are a box: the boxes
+-- are found in what it wrote, a track is read from them, and that track lists exactly these samples.
+module _ (l : List Sample) (w : All Of64 l) (m : Numbered 0 0 l) (scale : ℕ) (stsd rest o out : List ℕ) (k : ℕ) where
+  pub table-reads-back : stsd ≡ bytes 4 (length stsd) ++ (bytes 4 kinds.stsd ++ rest) → stblIn scale (recordsOf l) (length l) stsd o ≡ wrote (Done k) out
+      → (b : Boxes) × (t : Track) × (boxesOf (take k out) ≡ places.Are b) × (trackOf (take k out) b ≡ found.Is t) × (samplesOf (take k out) t ≡ l)
+  table-reads-back d e =
+      let x = written-given scale (recordsOf l) (length l) stsd o out k e in
+      let f = take k out in
+      let h : length (take k out) < 2 ^ 64 = omega (arith, ap length (x .bytes), x .small) in
+      let s : Stands f 0 f = record { before = []; behind = []; there = sym (append-nil f); place = refl } in
+      let r = written-reads-back f h l w m scale stsd o out k 0 e s in
+      let b = boxesAt 0 scale (recordsOf l) (length l) stsd in
+      (b, r .0, ap boxesOf (x .bytes) ∙ written-found scale (recordsOf l) (length l) stsd rest d (x .small), r .1, r .2)
