@@ -1,6 +1,6 @@
 -- The chunks of samples that are not refused have numbers that fit their fields. Assumes nothing.
-use Prim.Native.Nat.{ℕ, zero, suc, _+_, _-_, _*_, _^_, _≤_, _<_}
-use mathlib.Core.Path.{_≡_, refl, sym, ap, ap₂, subst, _∙_}
+use Prim.Native.Nat.{ℕ, suc, _+_, _-_, _^_, _≤_, _<_}
+use mathlib.Core.Path.{_≡_, refl, sym, ap, subst, _∙_}
 use mathlib.Core.List.{List, [], _∷_, _++_}
 use mathlib.Core.Bool.{Bool, true, false}
 use native.Mathlib.Omega.{arith}
@@ -16,7 +16,6 @@ use Rattle.merging.proofs.Rows.{All, nothing, each, Right, merged-right}
 use Rattle.samples.specs.declared.Sample.{Sample}
 use Rattle.builder.proofs.Bytes.{Small}
 use Rattle.chunking.specs.declared.Chunk.{Chunk}
-use Rattle.chunking.specs.declared.Step.{Step}
 use Rattle.chunking.specs.Chunking.{Piece, empty, alone, joined, goesOn, stepOf, finishOf, closedOf, openOf, chunksFrom, chunksOf}
 use Rattle.chunking.specs.Entries.{countsOf}
 use Rattle.chunking.proofs.Cases.{has-room, step-first, step-closed, step-joined, finish-none, finish-chunk}

@@ -1,22 +1,18 @@
 -- A box that is written around entries, and stands in a file, reads back there: its record, and where its entries stand.
 -- Assumes nothing.
-use Prim.Native.Nat.{ℕ, zero, suc, _+_, _-_, _*_, _^_, _≤_, _<_}
-use mathlib.Core.Path.{_≡_, refl, sym, ap, ap₂, subst, _∙_}
-use mathlib.Core.List.{List, [], _∷_, _++_, append-assoc}
-use mathlib.Core.Bool.{Bool, true, false}
+use Prim.Native.Nat.{ℕ, _+_, _-_, _*_, _^_, _≤_, _<_}
+use mathlib.Core.Path.{_≡_, refl, sym, ap, ap₂, _∙_}
+use mathlib.Core.List.{List, _++_, append-assoc}
 use native.Mathlib.Omega.{arith}
 use lib.ListN.{length, take, drop, length-append, take-append-drop}
 use lib.Seq.{sets, take-length, take-at, drop-at, length-take-le}
 use borrow.Author.Tests.{le-leb}
-use Rattle.numbers.specs.Field.{when, refusal}
+use Rattle.numbers.specs.Field.{when}
 use Rattle.numbers.specs.declared.Refusal.{Refusal}
-use Rattle.numbers.proofs.Chain.{is-le}
 use Rattle.parts.specs.Parts.{partOf}
-use Rattle.put.specs.Put.{Wrote, wrote}
+use Rattle.put.specs.Put.{wrote}
 use Rattle.put.specs.declared.Put.the-variants.{Done}
-use Rattle.layout.specs.Rule.{ruleOf}
 use Rattle.layout.specs.Read.{readOf, zeros}
-use Rattle.layout.specs.Write.{writeOf}
 use Rattle.layout.specs.Canonical.{slots, firsts}
 use Rattle.layout.specs.Table.{cutOf, tabled, writeTable}
 use Rattle.layout.specs.declared.Field.{Field}
@@ -24,13 +20,11 @@ use Rattle.layout.specs.declared.table.Cut.the-variants.{Whole}
 use Rattle.rows.specs.Judge.{judgedOf, writeJudged}
 use Rattle.rows.specs.declared.Judged.{Judged}
 use Rattle.rows.specs.declared.Judged.the-variants.{Fine}
-use Rattle.rows.proofs.Moved.{moved, judge-moved}
+use Rattle.rows.proofs.Moved.{moved}
 use Rattle.rounds.proofs.Boxes.{reads-back, fieldsIn}
 use Rattle.rounds.proofs.TableBoxes.{holds, as-many, table-is}
 use Rattle.rounds.proofs.JudgedBoxes.{sound, judged-is}
 use Rattle.stbl.specs.Stbl.{last, entriesAt, faultIn, missing, tableIn, optionalIn, entriesIn}
-use Rattle.tables.specs.declared.Table.{Table}
-use Rattle.tables.specs.declared.Optional.{Optional}
 use Rattle.tables.specs.declared.Optional.the-variants as optional
 use Rattle.built.specs.Written.{Stands}
 

@@ -1,20 +1,18 @@
 -- The boxes of a sample table that is written are found in it where `boxesAt` says. Assumes nothing.
 use Prim.Native.Nat.{ℕ, zero, suc, _+_, _-_, _*_, _^_, _≤_, _<_}
-use mathlib.Core.Path.{_≡_, refl, sym, ap, ap₂, subst, _∙_}
-use mathlib.Core.List.{List, [], _∷_, _++_, append-assoc, append-nil}
+use mathlib.Core.Path.{_≡_, refl, sym, ap, ap₂, _∙_}
+use mathlib.Core.List.{List, [], _++_, append-assoc, append-nil}
 use mathlib.Core.Bool.{Bool, true, false, not}
 use native.Mathlib.Omega.{arith}
 use lib.ListN.{length, take, length-append}
 use lib.Seq.{take-length}
-use lib.Dec.{eqb, ltb}
-use borrow.Author.Tests.{lt-ltb, le-ltb}
-use Rattle.numbers.specs.Number.{be, bytes}
-use Rattle.numbers.specs.Field.{when, refusal, field}
+use Rattle.numbers.specs.Number.{bytes}
+use Rattle.numbers.specs.Field.{when}
 use Rattle.numbers.proofs.Laws.{length-bytes}
-use Rattle.numbers.proofs.Chain.{whole, by-true, by-false, is-ne, not-lt, is-lt, is-eq}
-use Rattle.put.specs.Put.{Wrote, wrote}
+use Rattle.numbers.proofs.Chain.{whole, by-true, by-false, is-ne, not-lt, is-lt}
+use Rattle.put.specs.Put.{wrote}
 use Rattle.put.specs.declared.Put.the-variants.{Done}
-use Rattle.boxes.specs.Header.{header, headerOf, typedOf}
+use Rattle.boxes.specs.Header.{header, headerOf}
 use Rattle.boxes.specs.declared.header.Found.the-variants as header-found
 use Rattle.layout.specs.Rule.{ruleOf}
 use Rattle.layout.specs.Read.{readOf, zeros}
@@ -22,7 +20,6 @@ use Rattle.layout.specs.Write.{made, lay, encode, place, placed, writeOf, full}
 use Rattle.layout.specs.Canonical.{slots, firsts}
 use Rattle.places.specs.Kinds as kinds
 use Rattle.rows.specs.Judge.{settle}
-use Rattle.rows.specs.declared.Judged.{Judged}
 use Rattle.rows.specs.declared.Judged.the-variants.{Fine}
 use Rattle.rounds.proofs.Boxes.{reads-back, fieldsIn}
 use Rattle.children.specs.Children as children
@@ -50,7 +47,7 @@ use Rattle.sampletable.specs.SampleTable.{wideIn, listOf, kindOf, isThere, head
 use Rattle.sampletable.proofs.Puts.{tables-length}
 use Rattle.sampletable.proofs.Whole.{length-stbl}
 use Rattle.built.specs.Written.{Stands, Of64}
-use Rattle.built.specs.Places.{behind, spanIf, boxesFrom, boxesAt}
+use Rattle.built.specs.Places.{behind, boxesAt}
 use Rattle.built.proofs.Given.{length-words}
 use Rattle.built.proofs.Heads.{place-gives}
 use Rattle.built.proofs.Judged.{word-is}
@@ -262,19 +259,19 @@ module _ (scale : ℕ) (rs : List ℕ) (n : ℕ) (stsd rest : List ℕ) (d : sts
       children-are (stsd ++ ws) small
       ∙ next-row s 8 fuel kinds.stsd (length stsd) hd (omega (arith, ls, ld)) (omega (arith, ld)) (omega arith)
       ∙ ap (box kinds.stsd 8)
-        (ap (rowOf fuel s) (let z : 8 + length stsd ≡ 0 + (8 + length stsd) = omega arith in z)
-        ∙ table-row scale rs n s Stts a₁ (y₁ .0) f₁ fuel (omega arith)
-        ∙ ap (rowIf (isThere Stts rs n) (kindOf Stts (wideIn scale rs n)) a₁)
-          (table-row scale rs n s Ctts a₂ (y₂ .0) f₂ fuel (omega arith)
-          ∙ ap (rowIf (isThere Ctts rs n) (kindOf Ctts (wideIn scale rs n)) a₂)
-            (table-row scale rs n s Stsc a₃ (y₃ .0) f₃ fuel (omega arith)
-            ∙ ap (rowIf (isThere Stsc rs n) (kindOf Stsc (wideIn scale rs n)) a₃)
-              (table-row scale rs n s Stsz a₄ (y₄ .0) f₄ fuel (omega arith)
-              ∙ ap (rowIf (isThere Stsz rs n) (kindOf Stsz (wideIn scale rs n)) a₄)
-                (table-row scale rs n s Offsets a₅ (y₅ .0) f₅ fuel (omega arith)
-                ∙ ap (rowIf (isThere Offsets rs n) (kindOf Offsets (wideIn scale rs n)) a₅)
-                  (table-row scale rs n s Stss a₆ (y₅ .1) f₆ fuel (omega arith)
-                  ∙ ap (rowIf (isThere Stss rs n) (kindOf Stss (wideIn scale rs n)) a₆) (no-row s (behind scale rs n Stss a₆) fuel (omega (arith, ls, lt)))))))))
+      (ap (rowOf fuel s) (let z : 8 + length stsd ≡ 0 + (8 + length stsd) = omega arith in z)
+      ∙ table-row scale rs n s Stts a₁ (y₁ .0) f₁ fuel (omega arith)
+      ∙ ap (rowIf (isThere Stts rs n) (kindOf Stts (wideIn scale rs n)) a₁)
+      (table-row scale rs n s Ctts a₂ (y₂ .0) f₂ fuel (omega arith)
+      ∙ ap (rowIf (isThere Ctts rs n) (kindOf Ctts (wideIn scale rs n)) a₂)
+      (table-row scale rs n s Stsc a₃ (y₃ .0) f₃ fuel (omega arith)
+      ∙ ap (rowIf (isThere Stsc rs n) (kindOf Stsc (wideIn scale rs n)) a₃)
+      (table-row scale rs n s Stsz a₄ (y₄ .0) f₄ fuel (omega arith)
+      ∙ ap (rowIf (isThere Stsz rs n) (kindOf Stsz (wideIn scale rs n)) a₄)
+      (table-row scale rs n s Offsets a₅ (y₅ .0) f₅ fuel (omega arith)
+      ∙ ap (rowIf (isThere Offsets rs n) (kindOf Offsets (wideIn scale rs n)) a₅)
+      (table-row scale rs n s Stss a₆ (y₅ .1) f₆ fuel (omega arith)
+      ∙ ap (rowIf (isThere Stss rs n) (kindOf Stss (wideIn scale rs n)) a₆) (no-row s (behind scale rs n Stss a₆) fuel (omega (arith, ls, lt)))))))))
       ∙ rows-are scale rs n a₁ a₂ a₃ a₄ a₅ a₆ in
       let q = all-found (isThere Ctts rs n) (wideIn scale rs n) (isThere Stss rs n) a₁ a₂ a₃ a₄ a₅ a₆ in
       let th = always-there rs n in

@@ -1,7 +1,7 @@
 -- What follows for the samples where the builders do not refuse them: their numbers have the bits of their fields.
 -- Assumes nothing.
-use Prim.Native.Nat.{ℕ, zero, suc, _+_, _-_, _*_, _%_, _^_, _≤_, _<_}
-use mathlib.Core.Path.{_≡_, refl, sym, ap, ap₂, subst, _∙_}
+use Prim.Native.Nat.{ℕ, _+_, _-_, _*_, _%_, _^_, _≤_, _<_}
+use mathlib.Core.Path.{_≡_, refl, ap}
 use mathlib.Core.List.{List, [], _∷_, _++_}
 use mathlib.Core.Bool.{Bool, true, false, _&&_}
 use native.Mathlib.Omega.{arith}
@@ -11,9 +11,8 @@ use lib.ListN.{length}
 use lib.Dec.{eqb, leb, ltb}
 use borrow.Author.Tests.{eqb-true, leb-true, ltb-true}
 use Rattle.numbers.specs.Field.{when}
-use Rattle.numbers.proofs.Chain.{way}
 use Rattle.samples.specs.declared.Sample.{Sample}
-use Rattle.samples.specs.Records.{bitsOf, bitOf}
+use Rattle.samples.specs.Records.{bitsOf}
 use Rattle.columns.specs.declared.Rule.{Rule}
 use Rattle.columns.specs.declared.Rule.the-variants as rule
 use Rattle.columns.specs.Columns.{meets, allMeet}

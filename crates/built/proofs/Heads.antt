@@ -1,23 +1,19 @@
 -- The boxes' own writers give the boxes of the sample table. Assumes nothing.
-use Prim.Native.Nat.{ℕ, zero, suc, _+_, _-_, _*_, _/_, _^_, _≤_, _<_}
-use mathlib.Core.Path.{_≡_, refl, sym, ap, ap₂, subst, _∙_}
+use Prim.Native.Nat.{ℕ, suc, _+_, _-_, _*_, _^_, _<_}
+use mathlib.Core.Path.{_≡_, refl, sym, ap, _∙_}
 use mathlib.Core.List.{List, [], _∷_, _++_, append-assoc}
-use mathlib.Core.Bool.{Bool, true, false}
 use native.Mathlib.Omega.{arith}
-use lib.ListN.{length, take, drop, length-append}
+use lib.ListN.{length, drop, length-append}
 use lib.Seq.{sets, take-at}
-use lib.Dec.{eqb, leb, ltb}
 use borrow.Author.Tests.{le-ltb}
 use Rattle.numbers.specs.Number.{bytes}
-use Rattle.numbers.specs.Field.{refusal, when}
+use Rattle.numbers.specs.Field.{when}
 use Rattle.numbers.proofs.Laws.{length-bytes}
 use Rattle.numbers.proofs.Chain.{is-le, is-eq, not-lt}
-use Rattle.put.specs.Put.{Wrote, wrote}
-use Rattle.put.specs.declared.Put.the-variants.{Done}
+use Rattle.put.specs.Put.{Wrote}
 use Rattle.layout.specs.Rule.{ruleOf}
-use Rattle.layout.specs.Write.{Made, made, lay, encode, full, place, placed, padded, slotted, writeOf}
+use Rattle.layout.specs.Write.{made, lay, encode, full, place, placed, padded, slotted, writeOf}
 use Rattle.layout.specs.Table.{writeTable}
-use Rattle.layout.specs.declared.Field.{Field}
 use Rattle.layout.specs.declared.Field.the-variants.{Number, Version, Flags}
 use Rattle.rows.specs.Judge.{settle, writeJudged}
 use Rattle.rows.specs.declared.Judged.{Judged}

@@ -1,16 +1,16 @@
 -- The columns of the records of samples (Records.antt of samples) are the samples' own numbers, as the laws of the tables
 -- take them. Assumes nothing.
-use Prim.Native.Nat.{ℕ, zero, suc, _+_, _-_, _*_, _%_, _^_, _≤_, _<_}
-use mathlib.Core.Path.{_≡_, refl, sym, ap, ap₂, subst, _∙_}
-use mathlib.Core.List.{List, [], _∷_, _++_}
-use mathlib.Core.Bool.{Bool, true, false, _&&_}
+use Prim.Native.Nat.{ℕ, zero, suc, _-_, _%_, _^_}
+use mathlib.Core.Path.{_≡_, refl, ap, ap₂, _∙_}
+use mathlib.Core.List.{List, [], _∷_}
+use mathlib.Core.Bool.{true}
 use native.Mathlib.Omega.{arith}
 use lib.ListN.{length}
 use Rattle.samples.specs.declared.Sample.{Sample}
 use Rattle.samples.specs.Records.{bitsOf, bitOf, recordsOf}
-use Rattle.tables.specs.Tables.{listFrom, listed}
+use Rattle.tables.specs.Tables.{listFrom}
 use Rattle.columns.specs.Columns.{cellOf, lowAt, columnOf, lowsOf, allMeet}
-use Rattle.columns.specs.declared.Rule.the-variants.{Zero, Narrow, Signed}
+use Rattle.columns.specs.declared.Rule.the-variants.{Narrow}
 use Rattle.columns.proofs.Cells.{narrow-lows}
 use Rattle.columns.proofs.Records.{columnIn, records-column}
 use Rattle.builder.specs.Built.{pairsOf, runsOf, syncsFrom, syncsIn}

@@ -1,22 +1,21 @@
 -- The entries of stsc and stss, as they are built, are what the boxes' writers and readers allow (A21): first chunks begin
 -- at 1 and rise, no chunk has 0 samples, and sync samples rise. Assumes nothing.
-use Prim.Native.Nat.{ℕ, zero, suc, _+_, _-_, _*_, _^_, _≤_, _<_}
-use mathlib.Core.Path.{_≡_, refl, sym, ap, ap₂, subst, _∙_}
+use Prim.Native.Nat.{ℕ, suc, _+_, _-_, _≤_, _<_}
+use mathlib.Core.Path.{_≡_, refl, sym, ap, ap₂, _∙_}
 use mathlib.Core.List.{List, [], _∷_, _++_, append-assoc, append-nil}
 use mathlib.Core.Bool.{Bool, true, false}
 use native.Mathlib.Nat.{mod-eq-of-lt}
 use native.Mathlib.Omega.{arith}
 use lib.ListN.{length, length-append}
-use lib.Dec.{eqb, leb, ltb}
+use lib.Dec.{eqb, ltb}
 use borrow.Author.Tests.{eq-eqb, lt-ltb, le-leb, eqb-true}
 use Rattle.numbers.specs.Number.{be, bytes}
-use Rattle.numbers.specs.Field.{when, refusal, field}
+use Rattle.numbers.specs.Field.{when, refusal}
 use Rattle.numbers.proofs.Laws.{length-bytes, be-bytes}
 use Rattle.numbers.proofs.Chain.{whole, by-true}
 use Rattle.rows.specs.Rows.{widthOf, allowedOf, lastOf, cellsOf, entryOf, step, entriesOf}
 use Rattle.rows.specs.declared.Cell.{Cell}
 use Rattle.rows.specs.declared.Cell.the-variants.{FromOne, Least, Rising, Any, Nothing}
-use Rattle.rows.specs.declared.Judged.{Judged}
 use Rattle.rows.specs.declared.Judged.the-variants.{Fine}
 use Rattle.rows.specs.declared.Passed.{Passed}
 use Rattle.rows.specs.declared.Passed.the-variants as entry

@@ -1,18 +1,17 @@
 -- Each table of samples that are stored in a file, read by its box's own reader: where its entries stand, and that it tells
 -- what was built. Assumes nothing.
-use Prim.Native.Nat.{ℕ, zero, suc, _+_, _-_, _*_, _^_, _≤_, _<_}
-use mathlib.Core.Path.{_≡_, refl, sym, ap, ap₂, subst, _∙_}
-use mathlib.Core.List.{List, [], _∷_, _++_}
-use mathlib.Core.Bool.{Bool, true, false}
+use Prim.Native.Nat.{ℕ, _+_, _-_, _*_, _^_, _≤_, _<_}
+use mathlib.Core.Path.{_≡_, refl, ap, subst, _∙_}
+use mathlib.Core.List.{List}
 use native.Mathlib.Omega.{arith}
-use lib.ListN.{length, take, drop}
+use lib.ListN.{length, take}
 use Rattle.numbers.specs.Field.{when}
 use Rattle.parts.specs.Parts.{partOf}
 use Rattle.put.specs.Put.{Wrote, wrote}
 use Rattle.put.specs.declared.Put.the-variants.{Done}
 use Rattle.layout.specs.Rule.{ruleOf}
 use Rattle.layout.specs.Canonical.{slots, firsts}
-use Rattle.rows.proofs.Moved.{moved, judge-moved}
+use Rattle.rows.proofs.Moved.{judge-moved}
 use Rattle.stts.specs.Stts as stts
 use Rattle.stts.specs.declared.Stts.{Stts}
 use Rattle.stts.specs.declared.Found.the-variants as stts-is
@@ -36,7 +35,7 @@ use Rattle.stss.specs.declared.Stss.{Stss}
 use Rattle.stss.specs.declared.Found.the-variants as stss-is
 use Rattle.stbl.specs.Stbl.{last, entriesAt, sttsRead, sttsAt, cttsRead, cttsAt, stscRead, stscAt, stszRead, stszAt, stcoRead, stcoAt, co64Read, co64At, stssRead, stssAt}
 use Rattle.stbl.specs.declared.Span.{Span}
-use Rattle.built.specs.Written.{Gives, Stands}
+use Rattle.built.specs.Written.{Stands}
 use Rattle.built.specs.Stored.{BoxAt}
 use Rattle.built.proofs.Boxes.{Reads, table-reads, judged-reads, part-is, entries-stand, in-reach}
 

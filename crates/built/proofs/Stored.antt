@@ -1,17 +1,16 @@
 -- The builder's theorem: samples that are stored in a file, and read back, are just these samples. Assumes nothing.
-use Prim.Native.Nat.{ℕ, zero, suc, _+_, _-_, _*_, _^_, _≤_, _<_}
+use Prim.Native.Nat.{ℕ, _+_, _-_, _^_, _<_}
 use mathlib.Core.Path.{_≡_, refl, sym, ap, ap₂, subst, _∙_}
-use mathlib.Core.List.{List, [], _∷_, _++_}
-use mathlib.Core.Bool.{Bool, true, false}
+use mathlib.Core.List.{List, []}
+use mathlib.Core.Bool.{Bool}
 use native.Mathlib.Omega.{arith}
 use lib.ListN.{length}
 use Rattle.samples.specs.declared.Sample.{Sample}
 use Rattle.samples.specs.Records.{recordsOf}
-use Rattle.tables.specs.Tables.{Group, Syncs, listed, valuesOf, pairs, groupAt, groups, chunks, sizes, shifts, syncs, numbers, those}
+use Rattle.tables.specs.Tables.{listed, valuesOf, pairs, groupAt, groups, chunks, sizes, shifts, syncs, those}
 use Rattle.tables.specs.Samples.{place, zipped, samplesOf}
 use Rattle.tables.specs.declared.Table.{Table}
 use Rattle.tables.specs.declared.Optional.{Optional}
-use Rattle.tables.specs.declared.Optional.the-variants as optional
 use Rattle.tables.specs.declared.Track.{Track}
 use Rattle.places.specs.Kinds as kinds
 use Rattle.rows.specs.Judge.{settle}
@@ -20,28 +19,24 @@ use Rattle.rows.specs.declared.Judged.the-variants.{Fine}
 use Rattle.merging.specs.Merging.{mergedOf}
 use Rattle.merging.proofs.Rows.{All}
 use Rattle.builder.specs.Built as builder
-use Rattle.builder.specs.Built.{syncsFrom, commonIn}
-use Rattle.builder.proofs.Back.{sizesOf, durationsOf, shiftsOf, flagsOf, Numbered}
-use Rattle.chunking.specs.declared.Chunk.{Chunk}
+use Rattle.builder.specs.Built.{syncsFrom}
+use Rattle.builder.proofs.Back.{sizesOf, durationsOf, flagsOf, Numbered}
 use Rattle.chunking.specs.Chunking.{chunksOf}
 use Rattle.chunking.specs.Entries as chunking
 use Rattle.chunking.proofs.Back.{placesOf, entriesOf}
 use Rattle.chunking.proofs.Whole as whole
 use Rattle.chunking.proofs.Whole.{piecesOf}
 use Rattle.stts.specs.Stts as stts
-use Rattle.ctts.specs.Ctts as ctts
 use Rattle.stsc.specs.Stsc as stsc
-use Rattle.stsz.specs.Stsz as stsz
 use Rattle.stss.specs.Stss as stss
-use Rattle.stbl.specs.Stbl.{sttsAt, cttsAt, stscAt, stszAt, stcoAt, co64At, stssAt, chunksAt, readAll, faultIn, missing, firstWrong, faults, lacks, entriesAt, entriesIn, tableIn, optionalIn, isThere, built, trackOf}
+use Rattle.stbl.specs.Stbl.{sttsAt, cttsAt, stscAt, stszAt, stcoAt, stssAt, chunksAt, readAll, faultIn, missing, firstWrong, faults, lacks, entriesIn, tableIn, optionalIn, isThere, built, trackOf}
 use Rattle.stbl.specs.declared.Boxes.{Boxes}
 use Rattle.stbl.specs.declared.Span.{Span}
-use Rattle.stbl.specs.declared.Span.the-variants as span
 use Rattle.stbl.specs.declared.Found.the-variants as found
-use Rattle.built.specs.Written.{Gives, Stands, Of64}
+use Rattle.built.specs.Written.{Of64}
 use Rattle.built.specs.Stored.{BoxAt, CttsAt, StszAt, StssAt, ChunksAt, Stored}
 use Rattle.built.proofs.Boxes.{no-fault, not-missing, table-is-there, optional-is-there, common-is-there}
-use Rattle.built.proofs.Readings.{Found, stts-found, ctts-found, stsc-found, stsz-found, stco-found, co64-found, stss-found}
+use Rattle.built.proofs.Readings.{stts-found, ctts-found, stsc-found, stsz-found, stco-found, co64-found, stss-found}
 use Rattle.built.proofs.Tells.{stts-tells, ctts-tells, ctts-none, stsc-tells, stsz-tells, stco-tells, co64-tells, stss-tells, Shifted, zeros, shifted}
 
 module _ (f : List ℕ) (h : length f < 2 ^ 64) (l : List Sample) (w : All Of64 l) where

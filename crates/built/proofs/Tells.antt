@@ -1,7 +1,7 @@
 -- The entries of each table, as its builder writes them from the records of samples, stand in a file: the table tells what
 -- was built. Assumes nothing.
-use Prim.Native.Nat.{ℕ, zero, suc, _+_, _-_, _*_, _^_, _≤_, _<_}
-use mathlib.Core.Path.{_≡_, refl, sym, ap, ap₂, subst, _∙_}
+use Prim.Native.Nat.{ℕ, _+_, _-_, _*_}
+use mathlib.Core.Path.{_≡_, refl, sym, ap, ap₂, _∙_}
 use mathlib.Core.List.{List, [], _∷_, _++_}
 use mathlib.Core.Bool.{Bool, true, false, _&&_}
 use mathlib.Core.Logic.{⊎-elim}
@@ -12,12 +12,11 @@ use borrow.Author.Tests.{eq-eqb, eqb-true, eqb-false}
 use Rattle.numbers.specs.Field.{when}
 use Rattle.numbers.proofs.Chain.{way, by-true, by-false, is-eq}
 use Rattle.samples.specs.declared.Sample.{Sample}
-use Rattle.samples.specs.Records.{recordsOf, bitOf}
-use Rattle.tables.specs.Tables.{Group, listed, listFrom, valuesOf, pairs, groupAt, chunks, sizes, numbers}
+use Rattle.samples.specs.Records.{recordsOf}
+use Rattle.tables.specs.Tables.{listed, valuesOf, pairs, groupAt, chunks, sizes, numbers}
 use Rattle.tables.specs.declared.Row.{Row}
 use Rattle.merging.specs.Merging.{mergedOf}
-use Rattle.merging.proofs.Fewest.{merged-values}
-use Rattle.merging.proofs.Rows.{All, nothing, each}
+use Rattle.merging.proofs.Rows.{All}
 use Rattle.columns.specs.declared.Rule.the-variants as rule
 use Rattle.columns.specs.Columns.{columnOf, lowsOf, allMeet}
 use Rattle.columns.specs.Entries.{wordsOf}
@@ -33,10 +32,10 @@ use Rattle.chunking.proofs.Back.{placesOf, entriesOf}
 use Rattle.chunking.proofs.Whole.{piecesOf}
 use Rattle.chunking.proofs.Bytes.{Fit, groups-back, narrow-back, wide-back}
 use Rattle.built.specs.Written.{Gives, Stands, Of64}
-use Rattle.built.proofs.Joins.{bitsIn, compositions-column, sizes-column, durations-column, flags-column, sizes-lows, durations-runs, shifts-runs, flags-syncs, chunks-samples}
+use Rattle.built.proofs.Joins.{compositions-column, sizes-column, durations-column, sizes-lows, durations-runs, shifts-runs, flags-syncs, chunks-samples}
 use Rattle.built.proofs.Given.{length-words, Built, built-given, chunked-given, fits-both}
 use Rattle.built.proofs.Fits.{all-small, shifts-small, compositions-narrow, compositions-zero, syncs-small}
-use Rattle.built.proofs.Bounds.{Bounded, chunks-bounded, no-more-chunks, length-pieces, places-wide, groups-fit}
+use Rattle.built.proofs.Bounds.{chunks-bounded, no-more-chunks, length-pieces, places-wide, groups-fit}
 
 -- STTS AND CTTS
 

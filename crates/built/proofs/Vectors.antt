@@ -24,11 +24,10 @@ use Rattle.chunking.specs.Chunking.{goesOn, stepOf, finishOf}
 use Rattle.chunking.specs.Entries as chunking
 use Rattle.chunking.specs.Entries.{offsetWords}
 use Rattle.stbl.specs.Stbl.{trackOf}
-use Rattle.stbl.specs.declared.Boxes.{Boxes}
 use Rattle.stbl.specs.declared.Span.the-variants as span
 use Rattle.stbl.specs.declared.Found.the-variants as found
 use Rattle.sampletable.specs.SampleTable.{listOf, perOf, kindOf, isThere, firstOf, secondOf, fitsIn, stblOf, stblIn}
-use Rattle.built.specs.Written.{Gives, Stands, Of64}
+use Rattle.built.specs.Written.{Stands, Of64}
 use Rattle.built.specs.Places.{boxesAt}
 use Rattle.built.proofs.Written.{written-reads-back}
 

@@ -1,7 +1,7 @@
 -- What the sample table's writer has written, and stands in a file, stores the samples; so it reads back as just these.
 -- Assumes nothing.
 use Prim.Native.Nat.{ℕ, zero, suc, _+_, _-_, _*_, _/_, _%_, _^_, _≤_, _<_}
-use mathlib.Core.Path.{_≡_, refl, sym, ap, ap₂, subst, _∙_}
+use mathlib.Core.Path.{_≡_, refl, sym, ap, subst, _∙_}
 use mathlib.Core.List.{List, [], _∷_, _++_, append-assoc}
 use mathlib.Core.Bool.{Bool, true, false, not}
 use native.Mathlib.Omega.{arith}
@@ -27,7 +27,7 @@ use Rattle.tables.proofs.Lists.{length-list}
 use Rattle.tables.specs.declared.Row.{Row}
 use Rattle.tables.specs.declared.Track.{Track}
 use Rattle.merging.specs.Merging.{mergedOf}
-use Rattle.merging.proofs.Rows.{All, nothing, each, Right, merged-right}
+use Rattle.merging.proofs.Rows.{All, nothing, each, merged-right}
 use Rattle.columns.specs.declared.Rule.the-variants.{Zero, Narrow}
 use Rattle.columns.specs.Columns.{cellOf, lowAt, columnOf, lowsOf, allMeet}
 use Rattle.columns.specs.Entries.{wordsOf}
@@ -42,11 +42,8 @@ use Rattle.chunking.proofs.Cases.{step-first, step-closed, step-joined, finish-
 use Rattle.chunking.proofs.Whole.{piecesOf}
 use Rattle.chunking.proofs.Bytes.{Fit}
 use Rattle.stts.specs.Stts as stts
-use Rattle.ctts.specs.Ctts as ctts
 use Rattle.stsc.specs.Stsc as stsc
 use Rattle.stsz.specs.Stsz as stsz
-use Rattle.stco.specs.Stco as stco
-use Rattle.co64.specs.Co64 as co64
 use Rattle.stss.specs.Stss as stss
 use Rattle.stbl.specs.Stbl.{trackOf}
 use Rattle.stbl.specs.declared.Span.{Span}
@@ -60,7 +57,7 @@ use Rattle.built.specs.Written.{Gives, Stands, Of64}
 use Rattle.built.specs.Stored.{BoxAt, CttsAt, StszAt, StssAt, ChunksAt, Stored}
 use Rattle.built.specs.Places.{behind, spanIf, boxesFrom, boxesAt}
 use Rattle.built.proofs.Joins.{chunks-samples, flags-syncs}
-use Rattle.built.proofs.Given.{length-words, not-refused, not-refused-first, built-given, chunked-given, fits-both}
+use Rattle.built.proofs.Given.{length-words, not-refused, not-refused-first, chunked-given, fits-both}
 use Rattle.built.proofs.Fits.{syncs-small}
 use Rattle.built.proofs.Bounds.{chunks-bounded, no-more-chunks, length-pieces, groups-fit}
 use Rattle.built.proofs.Judged.{groups-fine, syncs-rise, numbers-fine}

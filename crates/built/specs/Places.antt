@@ -2,7 +2,7 @@
 -- `start` in a file: behind its own header and the sample descriptions, one behind the other. Assumes nothing.
 use Prim.Native.Nat.{ℕ, _+_, _*_}
 use mathlib.Core.List.{List}
-use mathlib.Core.Bool.{Bool, true, false, not}
+use mathlib.Core.Bool.{Bool, true, not}
 use lib.ListN.{length}
 use Rattle.numbers.specs.Field.{when}
 use Rattle.sampletable.specs.declared.Table.{Table}

@@ -1,7 +1,7 @@
 -- What is asked of a table, table by table. Assumes nothing.
-use Prim.Native.Nat.{ℕ, zero, suc, _+_, _-_, _*_, _/_, _^_, _≤_, _<_}
-use mathlib.Core.Path.{_≡_, refl, sym, ap, ap₂, subst, _∙_}
-use mathlib.Core.List.{List, [], _∷_, _++_}
+use Prim.Native.Nat.{ℕ, _-_, _*_, _/_}
+use mathlib.Core.Path.{_≡_, refl, sym, ap, _∙_}
+use mathlib.Core.List.{List, []}
 use mathlib.Core.Bool.{Bool, true, false, not}
 use native.Mathlib.Omega.{arith}
 use mathlib.Core.Logic.{⊎-elim}
@@ -23,7 +23,7 @@ use Rattle.chunking.specs.Chunking.{chunksIn}
 use Rattle.chunking.specs.Entries as chunking
 use Rattle.sampletable.specs.declared.Table.{Table}
 use Rattle.sampletable.specs.declared.Table.the-variants.{Stts, Ctts, Stsc, Stsz, Offsets, Stss}
-use Rattle.sampletable.specs.SampleTable.{wideIn, listOf, fitsIn, Ready, toldBy, entriesIn, perOf, kindOf, isThere, firstOf, secondOf, Puts}
+use Rattle.sampletable.specs.SampleTable.{wideIn, listOf, fitsIn, Ready, toldBy, entriesIn, perOf, kindOf, isThere, firstOf}
 
 module _ (t : Table) (scale : ℕ) (rs : List ℕ) (n : ℕ) (o : List ℕ) (x : Wrote) where
   pub by-stts : t ≡ Stts → x ≡ builder.sttsOf rs n o → x ≡ entriesIn t scale rs n o

@@ -1,21 +1,20 @@
 -- Numbers put one behind the other, and a table's box. Assumes nothing.
-use Prim.Native.Nat.{ℕ, zero, suc, _+_, _-_, _*_, _/_, _^_, _≤_, _<_}
+use Prim.Native.Nat.{ℕ, _+_, _-_, _*_, _/_, _^_, _≤_, _<_}
 use mathlib.Core.Path.{_≡_, refl, sym, ap, ap₂, subst, _∙_}
 use mathlib.Core.List.{List, [], _∷_, _++_, append-assoc, append-nil}
-use mathlib.Core.Bool.{Bool, true, false, not}
+use mathlib.Core.Bool.{Bool, true, false}
 use native.Mathlib.Nat.{zero-add}
 use native.Mathlib.Omega.{arith}
 use lib.ListN.{length, take, drop, length-append, length-drop, drop-of-length-le}
-use lib.Seq.{sets, sets-eq, length-sets, take-all, drop-drop, length-take-le}
-use lib.Dec.{eqb, leb}
-use borrow.Author.Tests.{not-true, not-false}
+use lib.Seq.{sets, sets-eq, length-sets, take-all, drop-drop}
+use lib.Dec.{eqb}
 use Rattle.numbers.specs.Number.{bytes}
-use Rattle.numbers.specs.Field.{refusal, when}
+use Rattle.numbers.specs.Field.{when}
 use Rattle.numbers.proofs.Laws.{length-bytes}
 use Rattle.numbers.proofs.Chain.{by-true, by-false, is-le}
-use Rattle.put.specs.Put.{Wrote, wrote, putOf}
+use Rattle.put.specs.Put.{wrote, putOf}
 use Rattle.put.specs.declared.Put.{Put}
-use Rattle.put.specs.declared.Put.the-variants.{Done, Refused}
+use Rattle.put.specs.declared.Put.the-variants.{Done}
 use Rattle.put.proofs.Stores.{sets-append}
 use Rattle.put.proofs.Placed.{done}
 use Rattle.tables.proofs.Lists.{length-list}
@@ -24,8 +23,6 @@ use Rattle.columns.specs.Columns.{columnOf, lowAt, lowsOf, allMeet}
 use Rattle.columns.specs.Entries.{wordsOf, placedOf}
 use Rattle.builder.specs.Built as builder
 use Rattle.builder.proofs.Fills.{runs-few, syncs-few}
-use Rattle.chunking.specs.Chunking.{chunksIn}
-use Rattle.chunking.specs.Entries as chunking
 use Rattle.chunking.proofs.Fills.{groups-few, offsets-few}
 use Rattle.sampletable.specs.declared.Table.{Table}
 use Rattle.sampletable.specs.declared.Table.the-variants.{Stts, Ctts, Stsc, Stsz, Offsets, Stss}

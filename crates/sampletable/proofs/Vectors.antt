@@ -2,7 +2,6 @@
 -- track, and every refusal. Assumes nothing.
 use mathlib.Core.Path.{_≡_, refl}
 use mathlib.Core.List.{List, [], _∷_, _++_}
-use mathlib.Core.Bool.{true, false}
 use Prim.Native.Nat.{ℕ}
 use lib.ListN.{replicate}
 use Rattle.numbers.specs.Number.{bytes}
@@ -17,8 +16,8 @@ use Rattle.builder.specs.Built.{commonIn, syncWord}
 use Rattle.chunking.specs.Chunking.{goesOn, stepOf, finishOf}
 use Rattle.chunking.specs.Entries as chunking
 use Rattle.chunking.specs.Entries.{offsetWords}
-use Rattle.sampletable.specs.declared.Table.the-variants.{Stts, Ctts, Stsc, Stsz, Offsets, Stss}
-use Rattle.sampletable.specs.SampleTable.{listOf, perOf, kindOf, isThere, firstOf, secondOf, headOf, tableOf, tablesOf, stblIn, fitsIn, entriesIn, toldBy, behindOf}
+use Rattle.sampletable.specs.declared.Table.the-variants.{Ctts, Stsz, Offsets, Stss}
+use Rattle.sampletable.specs.SampleTable.{listOf, perOf, kindOf, isThere, firstOf, secondOf, tableOf, tablesOf, stblIn, fitsIn, entriesIn, toldBy, behindOf}
 
 -- a sample at that place, of that size, duration, composition offset and sync
 abbrev sample : ℕ → ℕ → ℕ → ℕ → ℕ → List ℕ

@@ -1,16 +1,16 @@
 -- The whole box, and what its writer answers, way by way. Assumes nothing.
-use Prim.Native.Nat.{ℕ, zero, suc, _+_, _-_, _*_, _/_, _^_, _≤_, _<_}
-use mathlib.Core.Path.{_≡_, refl, sym, ap, ap₂, subst, _∙_}
-use mathlib.Core.List.{List, [], _∷_, _++_, append-assoc, append-nil}
+use Prim.Native.Nat.{ℕ, _+_, _-_, _*_, _^_, _≤_, _<_}
+use mathlib.Core.Path.{_≡_, refl, sym, ap, ap₂, _∙_}
+use mathlib.Core.List.{List, [], _++_, append-assoc, append-nil}
 use mathlib.Core.Bool.{Bool, true, false, not}
 use native.Mathlib.Nat.{zero-add}
 use native.Mathlib.Omega.{arith}
-use lib.ListN.{length, take, drop, length-append}
+use lib.ListN.{length, drop, length-append}
 use lib.Seq.{sets, sets-eq, length-sets}
-use lib.Dec.{eqb, leb, ltb}
+use lib.Dec.{leb}
 use borrow.Author.Tests.{leb-true, leb-false, not-true, not-false}
 use Rattle.numbers.specs.Number.{bytes}
-use Rattle.numbers.specs.Field.{refusal, when}
+use Rattle.numbers.specs.Field.{refusal}
 use Rattle.numbers.proofs.Laws.{length-bytes}
 use Rattle.numbers.proofs.Chain.{by-true, by-false, is-eq, is-ne, is-lt, not-lt, is-le, not-le}
 use Rattle.put.specs.Put.{Wrote, wrote, putOf, placed}
@@ -18,7 +18,7 @@ use Rattle.put.specs.declared.Put.{Put}
 use Rattle.put.specs.declared.Put.the-variants.{Done, Refused}
 use Rattle.put.proofs.Stores.{sets-append}
 use Rattle.put.proofs.Placed.{has-room}
-use Rattle.layout.specs.Write.{full, place}
+use Rattle.layout.specs.Write.{place}
 use Rattle.places.specs.Kinds as kinds
 use Rattle.columns.specs.declared.Rule.the-variants.{Narrow, Signed}
 use Rattle.columns.specs.Columns.{columnOf, allMeet}
