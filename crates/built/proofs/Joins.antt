@@ -64,11 +64,11 @@ module _ (l : List Sample) where
 
 -- THEIR LOWER 32 BITS
 
-abbrev lowed : List ℕ → List ℕ
+abbrev pub lowed : List ℕ → List ℕ
 lowed [] = []
 lowed (x ∷ l) = x % 2 ^ 32 ∷ lowed l
 
-lows-from : (rs : List ℕ) (k n i : ℕ) → listFrom (lowAt rs k) n i ≡ lowed (listFrom (cellOf rs k) n i)
+pub lows-from : (rs : List ℕ) (k n i : ℕ) → listFrom (lowAt rs k) n i ≡ lowed (listFrom (cellOf rs k) n i)
 unfolding lowAt
 lows-from rs k zero i = refl
 lows-from rs k (suc n) i = ap (λ (x : List ℕ). cellOf rs k i % 2 ^ 32 ∷ x) (lows-from rs k n (suc i))
@@ -89,13 +89,13 @@ module _ (l : List Sample) where
 
 -- THE TABLES' NUMBERS
 
-abbrev pieced : List ℕ → List ℕ → List ℕ → List Piece
+abbrev pub pieced : List ℕ → List ℕ → List ℕ → List Piece
 pieced [] ss ds = []
 pieced (o ∷ os) [] ds = []
 pieced (o ∷ os) (s ∷ ss) [] = []
 pieced (o ∷ os) (s ∷ ss) (d ∷ ds) = piece o s d ∷ pieced os ss ds
 
-pieces-from : (rs : List ℕ) (n i : ℕ) → listFrom (pieceAt rs) n i ≡ pieced (listFrom (cellOf rs 1) n i) (listFrom (lowAt rs 2) n i) (listFrom (lowAt rs 4) n i)
+pub pieces-from : (rs : List ℕ) (n i : ℕ) → listFrom (pieceAt rs) n i ≡ pieced (listFrom (cellOf rs 1) n i) (listFrom (lowAt rs 2) n i) (listFrom (lowAt rs 4) n i)
 pieces-from rs zero i = refl
 pieces-from rs (suc n) i = ap (λ (x : List Piece). pieceAt rs i ∷ x) (pieces-from rs n (suc i))
 

@@ -12,3 +12,4 @@ pub mod Heads
 pub mod Written
 mod Vectors
 pub mod Find
+pub mod Longer
