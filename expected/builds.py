@@ -99,8 +99,17 @@ def line(name, made):
     return f"{name}\t{made.hex()}"
 
 
+def whole(timescale, tables):
+    """The stbl of these tables, its stsd without an entry; a timescale of 0 goes before all."""
+    if not timescale:
+        return 8, 0
+    inside = [table("stsd", []), *(made for _, made in tables if made)]
+    return u(4, 8 + sum(map(len, inside))) + b"stbl" + b"".join(inside)
+
+
 def lines(timescale, samples):
-    return [*(line(name, made) for name, made in built(timescale, samples)), ""]
+    tables = list(built(timescale, samples))
+    return [*(line(name, made) for name, made in [*tables, ("stbl", whole(timescale, tables))]), ""]
 
 
 # THE TABLES READ BACK
@@ -112,6 +121,8 @@ class Tables:
         self.refused, self.stss, self.ctts, self.wide = None, None, None, False
         for one in told[:-1]:
             name, word, *rest = one.split("\t")
+            if name == "stbl":  # its tables are told before it
+                continue
             if word == "refused":
                 self.refused = tuple(map(int, rest))
             elif word != "absent":

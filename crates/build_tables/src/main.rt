@@ -3,8 +3,8 @@
 // for each sample its offset in 8 bytes, and in 4 each its size, its duration, its composition offset, signed, and
 // whether it is sync, 0 or 1. A list that is not whole, or has more than 64 samples, ends the run.
 // For each table there is a line, in the order in which the boxes stand in an stbl: its name and the bytes of the box as
-// digits, or `refused` with the number and the detail, or `absent` where the track has no such box. An empty line ends the
-// list. Words have a tab between them.
+// digits, or `refused` with the number and the detail, or `absent` where the track has no such box; then the whole stbl,
+// with an stsd of no entry. An empty line ends the list. Words have a tab between them.
 mod say;
 mod table;
 
@@ -86,6 +86,7 @@ fn print_tables(timescale: u32, n: u32, rows: &[u8]) {
     let mut records = [0u64; 448];
     let mut entries = [0u8; 1024];
     let mut out = [0u8; 1024];
+    let mut whole = [0u8; 4096];
     put_rows(rows, n, &mut records);
     table::stts(&records, n, &mut entries, &mut out);
     table::ctts(&records, n, &mut entries, &mut out);
@@ -93,6 +94,7 @@ fn print_tables(timescale: u32, n: u32, rows: &[u8]) {
     table::stsz(&records, n, &mut entries, &mut out);
     table::offsets(&records, n, timescale, &mut entries, &mut out);
     table::stss(&records, n, &mut entries, &mut out);
+    table::stbl(&records, n, timescale, &mut whole);
     say::text(b"\n");
 }
 
