@@ -42,7 +42,7 @@ unfoldable pub configOf : List ℕ → Found
 configOf t = typed t (kindIn t)
 
 abbrev pub profiled : Found → Told
-profiled (Is m) = profiles.profileOf (m .profile) (m .compatibility)
+profiled (Is m p) = profiles.profileOf (m .profile) (m .compatibility)
 profiled (Refused q) = told.Refused q
 
 abbrev pub profileOf : List ℕ → Told
@@ -60,14 +60,14 @@ abbrev pub hasSet : ℕ → ℕ → Judged
 hasSet i count = when (ltb i count) Fine (Wrong (refusal 11 i))
 
 abbrev pub amongSps : ℕ → Found → Judged
-amongSps i (Is m) = hasSet i (m .sps)
+amongSps i (Is m p) = hasSet i (m .sps)
 amongSps i (Refused q) = Wrong q
 
 abbrev pub spsFault : ℕ → List ℕ → Judged
 spsFault i t = amongSps i (configOf t)
 
 abbrev pub amongPps : ℕ → Found → Judged
-amongPps i (Is m) = hasSet i (m .pps)
+amongPps i (Is m p) = hasSet i (m .pps)
 amongPps i (Refused q) = Wrong q
 
 abbrev pub ppsFault : ℕ → List ℕ → Judged

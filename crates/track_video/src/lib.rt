@@ -62,7 +62,7 @@ pub fn profile(trak: &[u8]) -> Told
 {
     match config(trak) {
         avcc::Found::Refused(q) => Told::Refused(q),
-        avcc::Found::Is(m) => profiles::profile_of(m.profile, m.compatibility),
+        avcc::Found::Is(m, _) => profiles::profile_of(m.profile, m.compatibility),
     }
 }
 
@@ -102,7 +102,7 @@ pub fn sps_fault(trak: &[u8], i: u8) -> Judged
 {
     match config(trak) {
         avcc::Found::Refused(q) => Judged::Wrong(q),
-        avcc::Found::Is(m) => has_set(i, m.sps),
+        avcc::Found::Is(m, _) => has_set(i, m.sps),
     }
 }
 
@@ -112,6 +112,6 @@ pub fn pps_fault(trak: &[u8], i: u8) -> Judged
 {
     match config(trak) {
         avcc::Found::Refused(q) => Judged::Wrong(q),
-        avcc::Found::Is(m) => has_set(i, m.pps),
+        avcc::Found::Is(m, _) => has_set(i, m.pps),
     }
 }
