@@ -86,7 +86,6 @@ fn print_tables(timescale: u32, n: u32, rows: &[u8]) {
     let mut records = [0u64; 448];
     let mut entries = [0u8; 1024];
     let mut out = [0u8; 1024];
-    let mut whole = [0u8; 4096];
     put_rows(rows, n, &mut records);
     table::stts(&records, n, &mut entries, &mut out);
     table::ctts(&records, n, &mut entries, &mut out);
@@ -94,7 +93,14 @@ fn print_tables(timescale: u32, n: u32, rows: &[u8]) {
     table::stsz(&records, n, &mut entries, &mut out);
     table::offsets(&records, n, timescale, &mut entries, &mut out);
     table::stss(&records, n, &mut entries, &mut out);
-    table::stbl(&records, n, timescale, &mut whole);
+}
+
+// The whole stbl, with room for all of them, and the line that ends the list.
+fn print_whole(timescale: u32, n: u32, rows: &[u8]) {
+    let mut records = [0u64; 448];
+    let mut out = [0u8; 4096];
+    put_rows(rows, n, &mut records);
+    table::stbl(&records, n, timescale, &mut out);
     say::text(b"\n");
 }
 
@@ -119,6 +125,7 @@ fn print_list(lists: &[u8], at: usize) -> usize {
     }
     let end = from + length;
     print_tables(timescale, n, &lists[from..end]);
+    print_whole(timescale, n, &lists[from..end]);
     end
 }
 

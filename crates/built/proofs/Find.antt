@@ -35,12 +35,13 @@ use Rattle.merging.proofs.Rows.{All}
 use Rattle.columns.specs.Entries.{wordsOf}
 use Rattle.builder.proofs.Back.{Numbered}
 use Rattle.builder.proofs.Bytes.{Small}
-use Rattle.stbl.specs.Stbl.{spanBy, spanIn, spanOf, boxesIn, boxesOf, trackOf}
+use Rattle.stbl.specs.Stbl.{trackOf}
+use Rattle.tableboxes.specs.TableBoxes.{spanBy, spanIn, spanOf, boxesIn, boxesOf}
 use Rattle.stbl.specs.declared.Found.the-variants as found
 use Rattle.stbl.specs.declared.Boxes.{Boxes}
 use Rattle.stbl.specs.declared.Span.{Span}
 use Rattle.stbl.specs.declared.Span.the-variants as span
-use Rattle.stbl.specs.declared.Places.the-variants as places
+use Rattle.tableboxes.specs.declared.Places.the-variants as places
 use Rattle.sampletable.specs.declared.Table.{Table}
 use Rattle.sampletable.specs.declared.Table.the-variants.{Stts, Ctts, Stsc, Stsz, Offsets, Stss}
 use Rattle.sampletable.specs.SampleTable.{wideIn, listOf, kindOf, isThere, headOf, tableOf, tablesOf, boxOf, stblOf, stblIn}
