@@ -140,9 +140,7 @@ pub(crate) fn stss(records: &[u64], n: u32, entries: &mut [u8], out: &mut [u8]) 
 }
 
 // An stsd of no entry.
-const STSD: [u8; 16] = [
-    0, 0, 0, 16, 0x73, 0x74, 0x73, 0x64, 0, 0, 0, 0, 0, 0, 0, 0,
-];
+const STSD: [u8; 16] = [0, 0, 0, 16, 0x73, 0x74, 0x73, 0x64, 0, 0, 0, 0, 0, 0, 0, 0];
 
 pub(crate) fn stbl(records: &[u64], n: u32, timescale: u32, out: &mut [u8]) {
     let stsd = STSD;

@@ -37,7 +37,7 @@ fn elst(part: &[u8], out: &mut [u8]) {
             say::numbers(&[b.version as u64, b.flags as u64, b.count as u64]);
             let entries = say::entries(part, from, bytes_of(b.version, b.count));
             elst_entries(entries, b.version, b.count);
-            say::canonical(part, elst::KIND, short::wide(elst::ROW), entries.len());
+            say::canonical(part, elst::KIND, say::whole(elst::ROW), entries.len());
             let put = elst::write(b, entries, out);
             say::written(put, part, out);
         }

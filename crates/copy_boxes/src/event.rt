@@ -30,7 +30,7 @@ fn emsg(part: &[u8], out: &mut [u8]) {
             say::bytes(scheme);
             say::bytes(value);
             say::bytes(message);
-            say::canonical(part, emsg::KIND, short::wide(emsg::ROW), behind(p.end));
+            say::canonical(part, emsg::KIND, say::whole(emsg::ROW), behind(p.end));
             let put = emsg::write(b, scheme, value, message, out);
             say::written(put, part, out);
         }

@@ -66,7 +66,7 @@ fn mdhd(part: &[u8], out: &mut [u8]) {
                     b.language as u64,
                 ],
             );
-            say::canonical(part, mdhd::KIND, short::wide(mdhd::ROW), 0);
+            say::canonical(part, mdhd::KIND, say::whole(mdhd::ROW), 0);
             let put = mdhd::write(b, out);
             say::written(put, part, out);
         }
@@ -88,7 +88,7 @@ fn trex(part: &[u8], out: &mut [u8]) {
                     b.default_sample_flags as u64,
                 ],
             );
-            say::canonical(part, trex::KIND, short::wide(trex::ROW), 0);
+            say::canonical(part, trex::KIND, say::whole(trex::ROW), 0);
             let put = trex::write(b, out);
             say::written(put, part, out);
         }
@@ -100,7 +100,7 @@ fn mfhd(part: &[u8], out: &mut [u8]) {
         mfhd::Found::Refused(q) => say::refused(q),
         mfhd::Found::Is(b) => {
             say::numbers(&[b.version as u64, b.flags as u64, b.sequence_number as u64]);
-            say::canonical(part, mfhd::KIND, short::wide(mfhd::ROW), 0);
+            say::canonical(part, mfhd::KIND, say::whole(mfhd::ROW), 0);
             let put = mfhd::write(b, out);
             say::written(put, part, out);
         }
@@ -123,7 +123,7 @@ fn tfhd(part: &[u8], out: &mut [u8]) {
                     b.default_sample_flags as u64,
                 ],
             );
-            say::canonical(part, tfhd::KIND, short::wide(tfhd::ROW), 0);
+            say::canonical(part, tfhd::KIND, say::whole(tfhd::ROW), 0);
             let put = tfhd::write(b, out);
             say::written(put, part, out);
         }
@@ -135,7 +135,7 @@ fn tfdt(part: &[u8], out: &mut [u8]) {
         tfdt::Found::Refused(q) => say::refused(q),
         tfdt::Found::Is(b) => {
             say::numbers(&[b.version as u64, b.flags as u64, b.base_media_decode_time]);
-            say::canonical(part, tfdt::KIND, short::wide(tfdt::ROW), 0);
+            say::canonical(part, tfdt::KIND, say::whole(tfdt::ROW), 0);
             let put = tfdt::write(b, out);
             say::written(put, part, out);
         }

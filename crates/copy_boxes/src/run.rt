@@ -60,7 +60,7 @@ fn trun(part: &[u8], out: &mut [u8]) {
             say::one(b.first_sample_flags);
             let entries = say::entries(part, from, bytes_of(b.flags, b.sample_count));
             trun_entries(b, entries, listed(b.flags, b.sample_count));
-            say::canonical(part, trun::KIND, short::wide(trun::ROW), entries.len());
+            say::canonical(part, trun::KIND, say::whole(trun::ROW), entries.len());
             let put = trun::write(b, entries, out);
             say::written(put, part, out);
         }

@@ -117,6 +117,36 @@ fn alone(part: &[u8]) -> &[u8] {
     }
 }
 
+// A row of eight fields, as the whole row.
+pub(crate) fn whole(row: [Field; 8]) -> [Field; 24] {
+    [
+        row[0],
+        row[1],
+        row[2],
+        row[3],
+        row[4],
+        row[5],
+        row[6],
+        row[7],
+        Field::Nothing,
+        Field::Nothing,
+        Field::Nothing,
+        Field::Nothing,
+        Field::Nothing,
+        Field::Nothing,
+        Field::Nothing,
+        Field::Nothing,
+        Field::Nothing,
+        Field::Nothing,
+        Field::Nothing,
+        Field::Nothing,
+        Field::Nothing,
+        Field::Nothing,
+        Field::Nothing,
+        Field::Nothing,
+    ]
+}
+
 // Whether a box that was read is as we write it, with so many bytes behind its fields.
 pub(crate) fn canonical(part: &[u8], kind: u32, row: [Field; 24], rest: usize) {
     if layout::canonical::by(alone(part), kind, row, rest as u64) {

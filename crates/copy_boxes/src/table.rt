@@ -41,7 +41,7 @@ fn stts(part: &[u8], out: &mut [u8]) {
             say::numbers(&[b.version as u64, b.flags as u64, b.count as u64]);
             let entries = say::entries(part, from, (b.count as usize) * 8);
             stts_entries(entries, b.count);
-            say::canonical(part, stts::KIND, short::wide(stts::ROW), entries.len());
+            say::canonical(part, stts::KIND, say::whole(stts::ROW), entries.len());
             let put = stts::write(b, entries, out);
             say::written(put, part, out);
         }
@@ -72,7 +72,7 @@ fn ctts(part: &[u8], out: &mut [u8]) {
             say::numbers(&[b.version as u64, b.flags as u64, b.count as u64]);
             let entries = say::entries(part, from, (b.count as usize) * 8);
             ctts_entries(entries, b.count);
-            say::canonical(part, ctts::KIND, short::wide(ctts::ROW), entries.len());
+            say::canonical(part, ctts::KIND, say::whole(ctts::ROW), entries.len());
             let put = ctts::write(b, entries, out);
             say::written(put, part, out);
         }
@@ -108,7 +108,7 @@ fn stsc(part: &[u8], out: &mut [u8]) {
             say::numbers(&[b.version as u64, b.flags as u64, b.count as u64]);
             let entries = say::entries(part, from, (b.count as usize) * 12);
             stsc_entries(entries, b.count);
-            say::canonical(part, stsc::KIND, short::wide(stsc::ROW), entries.len());
+            say::canonical(part, stsc::KIND, say::whole(stsc::ROW), entries.len());
             let put = stsc::write(b, entries, out);
             say::written(put, part, out);
         }
@@ -138,7 +138,7 @@ fn stss(part: &[u8], out: &mut [u8]) {
             say::numbers(&[b.version as u64, b.flags as u64, b.count as u64]);
             let entries = say::entries(part, from, (b.count as usize) * 4);
             stss_entries(entries, b.count);
-            say::canonical(part, stss::KIND, short::wide(stss::ROW), entries.len());
+            say::canonical(part, stss::KIND, say::whole(stss::ROW), entries.len());
             let put = stss::write(b, entries, out);
             say::written(put, part, out);
         }
@@ -168,7 +168,7 @@ fn stco(part: &[u8], out: &mut [u8]) {
             say::numbers(&[b.version as u64, b.flags as u64, b.count as u64]);
             let entries = say::entries(part, from, (b.count as usize) * 4);
             stco_entries(entries, b.count);
-            say::canonical(part, stco::KIND, short::wide(stco::ROW), entries.len());
+            say::canonical(part, stco::KIND, say::whole(stco::ROW), entries.len());
             let put = stco::write(b, entries, out);
             say::written(put, part, out);
         }
@@ -198,7 +198,7 @@ fn co64(part: &[u8], out: &mut [u8]) {
             say::numbers(&[b.version as u64, b.flags as u64, b.count as u64]);
             let entries = say::entries(part, from, (b.count as usize) * 8);
             co64_entries(entries, b.count);
-            say::canonical(part, co64::KIND, short::wide(co64::ROW), entries.len());
+            say::canonical(part, co64::KIND, say::whole(co64::ROW), entries.len());
             let put = co64::write(b, entries, out);
             say::written(put, part, out);
         }
@@ -241,7 +241,7 @@ fn stsz(part: &[u8], out: &mut [u8]) {
             let n = listed(b.sample_size, b.count);
             let entries = say::entries(part, from, (n as usize) * 4);
             stsz_entries(entries, n);
-            say::canonical(part, stsz::KIND, short::wide(stsz::ROW), entries.len());
+            say::canonical(part, stsz::KIND, say::whole(stsz::ROW), entries.len());
             let put = stsz::write(b, entries, out);
             say::written(put, part, out);
         }

@@ -16,7 +16,7 @@ fn hdlr(part: &[u8], out: &mut [u8]) {
             say::numbers(&[b.version as u64, b.flags as u64, b.handler_type as u64]);
             let name = hdlr::name(part);
             say::bytes(name);
-            say::canonical(part, hdlr::KIND, short::wide(hdlr::ROW), name.len());
+            say::canonical(part, hdlr::KIND, say::whole(hdlr::ROW), name.len());
             let put = hdlr::write(b, name, out);
             say::written(put, part, out);
         }
@@ -30,7 +30,7 @@ fn url(part: &[u8], out: &mut [u8]) {
             say::numbers(&[b.version as u64, b.flags as u64]);
             let location = url::location(part);
             say::bytes(location);
-            say::canonical(part, url::KIND, short::wide(url::ROW), location.len());
+            say::canonical(part, url::KIND, say::whole(url::ROW), location.len());
             let put = url::write(b, location, out);
             say::written(put, part, out);
         }
@@ -44,7 +44,7 @@ fn dref(part: &[u8], out: &mut [u8]) {
             say::numbers(&[b.version as u64, b.flags as u64, b.count as u64]);
             let entries = dref::entries(part);
             say::bytes(entries);
-            say::canonical(part, dref::KIND, short::wide(dref::ROW), entries.len());
+            say::canonical(part, dref::KIND, say::whole(dref::ROW), entries.len());
             let put = dref::write(b, entries, out);
             say::written(put, part, out);
         }
@@ -58,7 +58,7 @@ fn stsd(part: &[u8], out: &mut [u8]) {
             say::numbers(&[b.version as u64, b.flags as u64, b.count as u64]);
             let entries = stsd::entries(part);
             say::bytes(entries);
-            say::canonical(part, stsd::KIND, short::wide(stsd::ROW), entries.len());
+            say::canonical(part, stsd::KIND, say::whole(stsd::ROW), entries.len());
             let put = stsd::write(b, entries, out);
             say::written(put, part, out);
         }

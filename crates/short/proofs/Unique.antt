@@ -2,14 +2,10 @@
 -- Assumes nothing.
 use mathlib.Core.Path.{_≡_, sym, _∙_}
 use denote.Ref.{now}
-use Rattle.short.proofs.wide.Reads as wide
 use Rattle.short.proofs.read.by.Reads as read-by
 use Rattle.short.proofs.read.rest.Reads as read-rest
 use Rattle.short.proofs.write.by.Reads as write-by
 use Rattle.short.proofs.write.plain.Reads as write-plain
-
-wide-fixed : (κs : _) (a : _) (r q : _) (s t : _) → wide.Post κs a r s → wide.Post κs a q t → r ≡ q
-wide-fixed κs a r q s t p o = p ∙ sym o
 
 read-by-fixed : (κs : _) (a : _) (r q : _) (s t : _) → read-by.Post κs a r s → read-by.Post κs a q t → r ≡ q
 read-by-fixed κs a r q s t p o = p ∙ sym o

@@ -8,7 +8,7 @@ pub mod read;
 pub mod write;
 
 // The whole row.
-pub fn wide(row: [Field; 8]) -> [Field; 24]
+pub(crate) fn wide(row: [Field; 8]) -> [Field; 24]
     ensures { λ r. ⌜ r ≡ padded row ⌝ }
 {
     [
