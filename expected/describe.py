@@ -333,7 +333,8 @@ def own():
     text = made.box("tx3g", made.words())
     vp09 = made.box("vp09", made.visual(made.box("vpcC", made.vpcc())))
     # each type of entry, and none
-    for one in (avc1(), mp4a(), vp09, text, box(b"hev1", bytes(78)), box(b"hvc1", bytes(78)), box(b"AVC1", bytes(78)), box(b"mp4v")):
+    others = (box(b"hev1", bytes(78)), box(b"hvc1", bytes(78)), box(b"AVC1", bytes(78)), box(b"mp4v"))
+    for one in (avc1(), mp4a(), vp09, text, *others):
         yield track(one)
     yield track(mp4a(), avc1(), hdlr=hdlr(b"soun"))
     yield track(avc1(), mp4a(), hdlr=hdlr(b"sbtl"))
@@ -372,9 +373,9 @@ def own():
     yield track(text, hdlr=full("hdlr", bytes(20), version=1))
     # bit rates up to 32 bits and past them, by sizes in common and by listed ones
     for common, count, timescale, duration in (
-            (0xFFFFFFFF, 1, 1, 8), (0xFFFFFFFF, 1, 1, 7), (0x20000000, 1, 1, 1), (0x1FFFFFFF, 1, 1, 1), (0xFFFFFFFF, 0xFFFFFFFF, 1, 1),
-            (0x80000000, 0x40000000, 1, 0xFFFFFFFF), (0x80000000, 0x3FFFFFFF, 1, 0xFFFFFFFF), (0xFFFFFFFF, 0xFFFFFFFF, 1000, 999),
-            (1, 0, 1, 1), (7, 3, 2, 5)):
+            (0xFFFFFFFF, 1, 1, 8), (0xFFFFFFFF, 1, 1, 7), (0x20000000, 1, 1, 1), (0x1FFFFFFF, 1, 1, 1),
+            (0xFFFFFFFF, 0xFFFFFFFF, 1, 1), (0x80000000, 0x40000000, 1, 0xFFFFFFFF), (0x80000000, 0x3FFFFFFF, 1, 0xFFFFFFFF),
+            (0xFFFFFFFF, 0xFFFFFFFF, 1000, 999), (1, 0, 1, 1), (7, 3, 2, 5)):
         yield track(text, stsz=stsz([], common, count), mdhd=mdhd(timescale, duration))
     yield track(vp09, stsz=stsz([0xFFFFFFFF] * 5), mdhd=mdhd(1, 39))
     yield track(vp09, stsz=stsz([0xFFFFFFFF] * 5), mdhd=mdhd(1, 40))
