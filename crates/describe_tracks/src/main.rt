@@ -11,7 +11,7 @@ mod say;
 mod video;
 
 use libc::STDOUT_FILENO;
-use numbers::U32;
+use packs::Item;
 
 fn tell_trak(trak: &[u8]) {
     say::count(b"trak", trak.len() as u64);
@@ -24,25 +24,17 @@ fn tell_trak(trak: &[u8]) {
 
 // The entry at `at`, and where the next one begins; the pack's end where this one is not whole.
 fn tell_entry(pack: &[u8], at: usize) -> usize {
-    let U32::Is(n) = numbers::u32_at(pack, at) else {
-        return pack.len();
-    };
-    if pack.len() < at {
-        return pack.len();
+    match packs::item_at(pack, at) {
+        Item::End => pack.len(),
+        Item::Cut => {
+            say::text(b"cut\n");
+            pack.len()
+        }
+        Item::Is(from, length) => {
+            tell_trak(parts::part(pack, from, length));
+            from + length
+        }
     }
-    let room = pack.len() - at;
-    if room < 4 {
-        return pack.len();
-    }
-    let length = n as usize;
-    if room - 4 < length {
-        say::text(b"cut\n");
-        return pack.len();
-    }
-    let from = at + 4;
-    let end = from + length;
-    tell_trak(&pack[from..end]);
-    end
 }
 
 // No pack has more entries than bytes.

@@ -1,0 +1,4 @@
+mod Cases
+pub mod Laws
+mod Unique
+mod Vectors
