@@ -15,6 +15,7 @@ mod tail;
 
 use libc::STDOUT_FILENO;
 use numbers::U32;
+use packs::Item;
 
 // A type is printed as its letters; a byte that is no printable ASCII as '?'.
 fn letter(b: u8) -> u8 {
@@ -69,25 +70,17 @@ fn copy_box(part: &[u8], out: &mut [u8]) {
 
 // The entry at `at`, and where the next one begins; the pack's end where this one is not whole.
 fn copy_entry(pack: &[u8], at: usize, out: &mut [u8]) -> usize {
-    let U32::Is(n) = numbers::u32_at(pack, at) else {
-        return pack.len();
-    };
-    if pack.len() < at {
-        return pack.len();
+    match packs::item_at(pack, at) {
+        Item::End => pack.len(),
+        Item::Cut => {
+            say::text(b"cut\n");
+            pack.len()
+        }
+        Item::Is(from, length) => {
+            copy_box(parts::part(pack, from, length), out);
+            from + length
+        }
     }
-    let room = pack.len() - at;
-    if room < 4 {
-        return pack.len();
-    }
-    let length = n as usize;
-    if room - 4 < length {
-        say::text(b"cut\n");
-        return pack.len();
-    }
-    let from = at + 4;
-    let end = from + length;
-    copy_box(&pack[from..end], out);
-    end
 }
 
 // No pack has more entries than bytes.
