@@ -51,7 +51,8 @@ use Rattle.stbl.specs.declared.Span.the-variants as span
 use Rattle.stbl.specs.declared.Found.the-variants as found
 use Rattle.sampletable.specs.declared.Table.{Table}
 use Rattle.sampletable.specs.declared.Table.the-variants.{Stts, Ctts, Stsc, Stsz, Offsets, Stss}
-use Rattle.sampletable.specs.SampleTable.{wideIn, listOf, perOf, kindOf, isThere, firstOf, secondOf, tableOf, tablesOf, boxOf, stblOf, stblIn, fitsIn, entriesIn, Ready}
+use Rattle.sampletable.specs.SampleTable.{wideIn, listOf, perOf, kindOf, isThere, firstOf, secondOf, tableOf, tablesOf, boxOf, stblOf, stblIn, fitsIn}
+use Rattle.sampletable.specs.Inside.{entriesIn, Ready}
 use Rattle.sampletable.proofs.Cases.{ready-placed}
 use Rattle.built.specs.Written.{Gives, Stands, Of64}
 use Rattle.built.specs.Stored.{BoxAt, CttsAt, StszAt, StssAt, ChunksAt, Stored}

@@ -23,7 +23,8 @@ use Rattle.chunking.specs.Chunking.{chunksIn}
 use Rattle.chunking.specs.Entries as chunking
 use Rattle.sampletable.specs.declared.Table.{Table}
 use Rattle.sampletable.specs.declared.Table.the-variants.{Stts, Ctts, Stsc, Stsz, Offsets, Stss}
-use Rattle.sampletable.specs.SampleTable.{wideIn, listOf, fitsIn, Ready, toldBy, entriesIn, perOf, kindOf, isThere, firstOf}
+use Rattle.sampletable.specs.SampleTable.{wideIn, listOf, fitsIn, perOf, kindOf, isThere, firstOf}
+use Rattle.sampletable.specs.Inside.{Ready, toldBy, entriesIn}
 
 module _ (t : Table) (scale : ℕ) (rs : List ℕ) (n : ℕ) (o : List ℕ) (x : Wrote) where
   pub by-stts : t ≡ Stts → x ≡ builder.sttsOf rs n o → x ≡ entriesIn t scale rs n o

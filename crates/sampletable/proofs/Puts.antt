@@ -26,7 +26,8 @@ use Rattle.builder.proofs.Fills.{runs-few, syncs-few}
 use Rattle.chunking.proofs.Fills.{groups-few, offsets-few}
 use Rattle.sampletable.specs.declared.Table.{Table}
 use Rattle.sampletable.specs.declared.Table.the-variants.{Stts, Ctts, Stsc, Stsz, Offsets, Stss}
-use Rattle.sampletable.specs.SampleTable.{wideIn, listOf, kindOf, isThere, firstOf, secondOf, headOf, tableOf, tablesOf, boxOf, entriesIn, behindOf, beforeOf, Ready, Puts, HasRoom}
+use Rattle.sampletable.specs.SampleTable.{wideIn, listOf, kindOf, isThere, firstOf, secondOf, headOf, tableOf, tablesOf, boxOf}
+use Rattle.sampletable.specs.Inside.{entriesIn, behindOf, beforeOf, Ready, Puts, HasRoom}
 use Rattle.sampletable.proofs.Cases.{ready-placed}
 
 -- NUMBERS

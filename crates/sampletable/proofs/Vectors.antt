@@ -17,7 +17,8 @@ use Rattle.chunking.specs.Chunking.{goesOn, stepOf, finishOf}
 use Rattle.chunking.specs.Entries as chunking
 use Rattle.chunking.specs.Entries.{offsetWords}
 use Rattle.sampletable.specs.declared.Table.the-variants.{Ctts, Stsz, Offsets, Stss}
-use Rattle.sampletable.specs.SampleTable.{listOf, perOf, kindOf, isThere, firstOf, secondOf, tableOf, tablesOf, stblIn, fitsIn, entriesIn, toldBy, behindOf}
+use Rattle.sampletable.specs.SampleTable.{listOf, perOf, kindOf, isThere, firstOf, secondOf, tableOf, tablesOf, stblIn, fitsIn}
+use Rattle.sampletable.specs.Inside.{entriesIn, toldBy, behindOf}
 
 -- a sample at that place, of that size, duration, composition offset and sync
 abbrev sample : ℕ → ℕ → ℕ → ℕ → ℕ → List ℕ

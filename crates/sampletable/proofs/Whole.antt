@@ -24,7 +24,8 @@ use Rattle.columns.specs.declared.Rule.the-variants.{Narrow, Signed}
 use Rattle.columns.specs.Columns.{columnOf, allMeet}
 use Rattle.columns.specs.Entries.{wordsOf}
 use Rattle.chunking.specs.Entries as chunking
-use Rattle.sampletable.specs.SampleTable.{tablesOf, stblOf, stblIn, fitsIn, Ready}
+use Rattle.sampletable.specs.SampleTable.{tablesOf, stblOf, stblIn, fitsIn}
+use Rattle.sampletable.specs.Inside.{Ready}
 use Rattle.sampletable.proofs.Puts.{length-words, one-put}
 
 -- WHETHER ALL FIT

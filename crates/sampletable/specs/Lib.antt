@@ -1,1 +1,2 @@
 pub mod SampleTable
+pub mod Inside
