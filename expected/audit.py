@@ -4,14 +4,18 @@ one against.
 
 Written from document 01 and readings A1 to A55 and A66. The walk is expected/tree.py's, a box's fields are read by
 expected/boxes.py, those of a sample entry and its configuration by expected/entries.py, and the samples of tables are listed
-by expected/tables.py.
+by expected/tables.py. What a track tells of itself is expected/describe.py's, and its figures are expected/summaries.py's.
     python3 expected/audit.py FILE ...
     python3 expected/audit.py --list FILE
+    python3 expected/audit.py --summary FILE
 """
+import decimal
 import sys
 
 import boxes
+import describe
 import entries
+import summaries
 import tables
 import tree
 from boxes import Refused
@@ -42,6 +46,7 @@ FINDINGS = {
     8: "a fragment's time does not follow the one before",
 }
 HEADING = "track number offset size time duration composition sync".split()
+FIGURES = "track kind entry language timescale duration microseconds samples bytes frames width height".split()
 
 # Each at most once in its parent (A16). stco and co64 are one of these: a file has the one or the other.
 ONCE = set("ftyp moov mvhd mvex tkhd edts mdia elst mdhd hdlr minf dinf dref stbl stsd stts ctts stsc stsz stco stss "
@@ -282,6 +287,7 @@ class Movie:
             raise fault
         complete(file)
         traks = file.first("moov").all("trak")
+        self.traks = {trak.first("tkhd").words[4]: data[trak.start:trak.end] for trak in traks}
         self.tables = {trak.first("tkhd").words[4]: tables_of(stbl_of(trak)) for trak in traks}
         self.samples = {track: [sample[1:] for sample in tables.samples(found)] for track, found in self.tables.items()}
         self.payloads = [mdat.payload(data) for mdat in file.all("mdat")]
@@ -394,14 +400,18 @@ def examine(movie):
 
 # THE LINES
 
+def refused(refusal):
+    number, detail = refusal.args
+    return f"refused {number} detail={detail} ({REFUSALS[number]})"
+
+
 def verdict(data):
     """What is printed behind the file's name."""
     try:
         movie = Movie(data)
         examine(movie)
     except Refused as refusal:
-        number, detail = refusal.args
-        return f"refused {number} detail={detail} ({REFUSALS[number]})"
+        return refused(refusal)
     except Finding as finding:
         number, *places = finding.args
         return "F%d track=%d sample=%d position=%d gap=%d (%s)" % (number, *places, FINDINGS[number])
@@ -417,18 +427,46 @@ def listing(data):
             yield "\t".join(str(int(word)) for word in (track, number, *sample))
 
 
+def pixels(raw):
+    """A 16.16 number as the shortest decimal that gives it back from 64 bits."""
+    return format(decimal.Decimal(repr(raw / 65536)), "f").removesuffix(".0")
+
+
+def summary(data):
+    """A line for each track; Refused where the file is, or where a track's figures are."""
+    yield "\t".join(FIGURES)
+    movie = Movie(data)
+    for track, trak in movie.traks.items():
+        sizes = [size for _, size, *_ in movie.samples[track]]
+        timescale, duration, _ = describe.media_header(trak)
+        width, height = describe.told(trak, b"tkhd")[-2:]
+        figures = summaries.line(len(sizes), duration, timescale, width, height).split("\t")
+        if figures[0] == "refused":
+            raise Refused(int(figures[1]), int(figures[2]))
+        kind, entry = (boxes.letters(code.to_bytes(4, "big")) for code in (describe.told(trak, b"hdlr")[2], describe.entry_kind(trak)))
+        yield "\t".join(str(word) for word in (
+            track, kind, entry if describe.entry_kind(trak) else "-", describe.language(trak), timescale, duration, figures[-1],
+            len(sizes), sum(sizes), figures[0], pixels(width), pixels(height)))
+
+
 def content(name):
     with open(name, "rb") as file:
         return file.read(tree.MOST_BYTES + 1)
 
 
+def told(rows, name):
+    """All rows, or the line that says why there are none."""
+    try:
+        return "\n".join(list(rows(content(name))))
+    except Refused as refusal:
+        return f"{name}: {refused(refusal)}"
+
+
 def main():
-    if sys.argv[1] == "--list":
-        try:
-            print("\n".join(list(listing(content(sys.argv[2])))))
-            return
-        except Refused:
-            del sys.argv[1]  # there is no sample to tell of: the verdict says why
+    rows = {"--list": listing, "--summary": summary}.get(sys.argv[1])
+    if rows:
+        print(told(rows, sys.argv[2]))
+        return
     for name in sys.argv[1:]:
         print(f"{name}: {verdict(content(name))}")
 
