@@ -10,6 +10,7 @@ compile_error!("the proved library is made for x86-64 and Linux");
 
 mod exports;
 mod letters;
+mod many;
 mod map;
 mod recording;
 mod refusal;

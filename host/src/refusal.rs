@@ -1,4 +1,5 @@
 use crate::letters::FourLetters;
+use crate::many::Many;
 use std::error::Error;
 use std::fmt;
 
@@ -129,7 +130,7 @@ impl fmt::Display for Refusal {
             Refusal::NoSuchSample { number } => write!(f, ": {number}"),
             Refusal::NoRoom { needed } => write!(f, ": {needed} are needed"),
             Refusal::OutOfRange | Refusal::Mixed | Refusal::NotWritable => Ok(()),
-            _ => write!(f, ", {} bytes into the file", self.detail()),
+            _ => write!(f, ", {} into the file", Many(self.detail(), "byte")),
         }
     }
 }

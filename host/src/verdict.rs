@@ -1,4 +1,5 @@
 use crate::exports::Answer;
+use crate::many::Many;
 use crate::refusal::Refusal;
 use std::fmt;
 
@@ -253,15 +254,5 @@ impl fmt::Display for Finding {
                 if *gap < 0 { "early" } else { "late" }
             ),
         }
-    }
-}
-
-// A number of things, one or more.
-struct Many(u64, &'static str);
-
-impl fmt::Display for Many {
-    fn fmt(&self, f: &mut fmt::Formatter<'_>) -> fmt::Result {
-        let ending = if self.0 == 1 { "" } else { "s" };
-        write!(f, "{} {}{ending}", self.0, self.1)
     }
 }

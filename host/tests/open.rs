@@ -1,0 +1,82 @@
+//! What can be opened, and what is told of a file that changes.
+
+use crate::files::Files;
+use framewitness::{FourLetters, Recording, Refusal, Verdict};
+use std::ffi::CString;
+use std::fs::{File, OpenOptions};
+use std::io::{ErrorKind, Write};
+use std::os::unix::ffi::OsStrExt;
+use std::path::Path;
+use std::time::{Duration, SystemTime};
+
+extern "C" {
+    fn mkfifo(path: *const std::ffi::c_char, mode: u32) -> i32;
+}
+
+pub fn maps_the_bytes(files: &Files) {
+    for name in ["clean_case2.mp4", "ff_prog_av.mp4", "r5_moov.mp4"] {
+        let bytes = files.bytes(name);
+        assert_eq!(Recording::open(files.path(name)).unwrap().bytes(), bytes);
+        assert_eq!(Recording::lend(&bytes).bytes(), bytes);
+    }
+}
+
+pub fn an_empty_file(files: &Files) {
+    let empty = Recording::open(files.made("empty.mp4", b"")).unwrap();
+    assert_eq!(empty.bytes(), b"");
+    let letters = FourLetters(*b"ftyp");
+    assert_eq!(
+        empty.audit(),
+        Verdict::Refused(Refusal::Missing { letters })
+    );
+    assert_eq!(empty.audit(), Recording::lend(b"").audit());
+    assert!(empty.is_unchanged().unwrap());
+}
+
+pub fn no_file(files: &Files) {
+    let pipe = files.free("pipe");
+    let name = CString::new(pipe.as_os_str().as_bytes()).unwrap();
+    // SAFETY: the name ends with a 0.
+    assert_eq!(unsafe { mkfifo(name.as_ptr(), 0o600) }, 0);
+
+    let refused = |path: &Path, words: &str| {
+        let error = Recording::open(path).unwrap_err();
+        assert_eq!(error.kind(), ErrorKind::InvalidInput);
+        assert_eq!(error.to_string(), words);
+    };
+    refused(&files.free(""), "it is a directory");
+    refused(&pipe, "it is a pipe or a device and no file"); // and nobody waits for a writer
+    refused("/dev/null".as_ref(), "it is a pipe or a device and no file");
+
+    let error = Recording::open(files.free("nothing")).unwrap_err();
+    assert_eq!(error.kind(), ErrorKind::NotFound);
+}
+
+/// One byte more than the library reads; it takes no room on the disk.
+pub fn a_file_past_the_limit(files: &Files) {
+    let path = files.free("large.mp4");
+    File::create(&path).unwrap().set_len((1 << 30) + 1).unwrap();
+    let large = Recording::open(&path).unwrap();
+    assert_eq!(large.bytes().len(), (1 << 30) + 1);
+    let refusal = Refusal::OverLimit { position: 0 };
+    assert_eq!(large.audit(), Verdict::Refused(refusal));
+    assert_eq!(large.tracks().unwrap_err(), refusal);
+}
+
+pub fn tells_a_change(files: &Files) {
+    let path = files.made("growing.mp4", &files.bytes("clean_case2.mp4"));
+    let recording = Recording::open(&path).unwrap();
+    assert!(recording.is_unchanged().unwrap());
+    let mut file = OpenOptions::new().append(true).open(&path).unwrap();
+    file.write_all(b"more").unwrap();
+    assert!(!recording.is_unchanged().unwrap());
+
+    // The size is the same.
+    let recording = Recording::open(&path).unwrap();
+    assert!(recording.is_unchanged().unwrap());
+    file.set_modified(SystemTime::now() + Duration::from_secs(9))
+        .unwrap();
+    assert!(!recording.is_unchanged().unwrap());
+
+    assert!(Recording::lend(b"more").is_unchanged().unwrap());
+}
