@@ -12,7 +12,7 @@ use std::thread;
 use std::time::{Duration, Instant};
 
 /// The stack of one who audits. What the library takes of it is told by `framewitness::Recording`.
-const STACK: usize = 8 << 20;
+const STACK: usize = 4 << 20;
 
 /// A call that takes longer than this shows how far it is.
 const LONG: Duration = Duration::from_secs(2);
