@@ -1,6 +1,7 @@
 // Tells cargo where libwitness.a lies, the archive that `rt staticlib witness` makes.
 use std::env;
 use std::path::Path;
+use std::process;
 
 fn main() {
     println!("cargo:rerun-if-env-changed=FRAMEWITNESS_ARCHIVE");
@@ -11,10 +12,11 @@ fn main() {
     };
     let file = archive.join("libwitness.a");
     if !file.is_file() {
-        panic!(
+        eprintln!(
             "{} is missing: make it by `rt staticlib witness`, or say in FRAMEWITNESS_ARCHIVE in which folder it is",
             file.display()
         );
+        process::exit(1);
     }
     println!("cargo:rerun-if-changed={}", file.display());
     println!("cargo:rustc-link-search=native={}", archive.display());

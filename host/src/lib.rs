@@ -1,12 +1,25 @@
 //! Framewitness says of an MP4 file whether the recording is whole.
 //!
 //! What is asked of a file is answered by a library that is proved: its answer is the one that its definition gives, for
-//! every file, and the same one for the same bytes. This crate maps a file, hands its bytes to that library without a
-//! copy, and puts the answers into types.
+//! every file, and always the same one for the same bytes. This crate maps a file, hands its bytes to that library
+//! without a copy, and puts the answers into types. What a verdict says, and what it does not say, stands in the
+//! project's README.md.
+//!
+//! # To audit a file
+//!
+//! ```no_run
+#![doc = include_str!("../examples/audit.rs")]
+//! ```
+//!
+//! # To read its samples
+//!
+//! ```no_run
+#![doc = include_str!("../examples/samples.rs")]
+//! ```
 #![warn(missing_docs)]
 
 #[cfg(not(all(target_arch = "x86_64", target_os = "linux")))]
-compile_error!("the proved library is made for x86-64 and Linux");
+compile_error!("the proved library is made for Linux on x86-64");
 
 mod exports;
 mod letters;

@@ -2,8 +2,8 @@
 
 use std::fs::{self, File, Metadata, OpenOptions};
 use std::io;
-use std::os::fd::AsRawFd;
 use std::os::unix::fs::OpenOptionsExt;
+use std::os::unix::io::AsRawFd;
 use std::path::Path;
 use std::ptr::{self, NonNull};
 use std::slice;
@@ -39,7 +39,7 @@ impl Map {
             .open(path)?;
         let metadata = file.metadata()?;
         must_be_file(&metadata)?;
-        let length = usize::try_from(metadata.len()).map_err(io::Error::other)?;
+        let length = metadata.len() as usize; // both have 64 bits
         let modified = metadata.modified()?;
         let at = match length {
             0 => NonNull::dangling(), // the system maps no bytes at all

@@ -60,8 +60,8 @@ impl<'a> Recording<'a> {
         Verdict::of(answer, words)
     }
 
-    /// The tracks, in the order of the file's moov box. Where the audit refuses the file, this does so too; a finding
-    /// does not hinder it.
+    /// The tracks, in the order of the file's moov box. The file is audited first, at each call; where that refuses it,
+    /// this does so too, and a finding does not hinder it.
     ///
     /// One thing more is refused, as [`Refusal::OutOfRange`]: a track whose duration has no 64 bits in microseconds.
     pub fn tracks(&self) -> Result<Vec<Track<'_>>, Refusal> {

@@ -50,7 +50,7 @@ pub fn of_a_list(files: &Files) {
         [2, 58, 20, 1000, 1000, 2000, 0],
         [3, 78, 30, 2000, 1000, (-2147483648i64) as u64, 1],
     ];
-    assert_answered(answer(0, 3), 3, words.as_flattened(), |out| {
+    assert_answered(answer(0, 3), 3, &words.concat(), |out| {
         exports::list(&file, 0, out)
     });
 }

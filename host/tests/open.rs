@@ -3,14 +3,16 @@
 use crate::files::Files;
 use framewitness::{FourLetters, Recording, Refusal, Verdict};
 use std::ffi::CString;
-use std::fs::{File, OpenOptions};
-use std::io::{ErrorKind, Write};
+use std::fs::File;
+use std::io::ErrorKind;
+use std::os::raw::c_char;
 use std::os::unix::ffi::OsStrExt;
 use std::path::Path;
-use std::time::{Duration, SystemTime};
+use std::thread;
+use std::time::Duration;
 
 extern "C" {
-    fn mkfifo(path: *const std::ffi::c_char, mode: u32) -> i32;
+    fn mkfifo(path: *const c_char, mode: u32) -> i32;
 }
 
 pub fn maps_the_bytes(files: &Files) {
@@ -64,19 +66,18 @@ pub fn a_file_past_the_limit(files: &Files) {
 }
 
 pub fn tells_a_change(files: &Files) {
-    let path = files.made("growing.mp4", &files.bytes("clean_case2.mp4"));
-    let recording = Recording::open(&path).unwrap();
+    let path = files.made("changing.mp4", b"some");
+    let opened = || Recording::open(&path).unwrap();
+    let recording = opened();
     assert!(recording.is_unchanged().unwrap());
-    let mut file = OpenOptions::new().append(true).open(&path).unwrap();
-    file.write_all(b"more").unwrap();
+    files.made("changing.mp4", b"some more");
     assert!(!recording.is_unchanged().unwrap());
 
-    // The size is the same.
-    let recording = Recording::open(&path).unwrap();
+    let recording = opened();
     assert!(recording.is_unchanged().unwrap());
-    file.set_modified(SystemTime::now() + Duration::from_secs(9))
-        .unwrap();
+    thread::sleep(Duration::from_millis(50)); // the clock of a file system is coarse
+    files.made("changing.mp4", b"same size");
     assert!(!recording.is_unchanged().unwrap());
 
-    assert!(Recording::lend(b"more").is_unchanged().unwrap());
+    assert!(Recording::lend(b"some").is_unchanged().unwrap());
 }

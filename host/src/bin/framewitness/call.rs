@@ -1,5 +1,6 @@
 //! What the arguments ask for. An option is one only as the first of them, so that any later argument is a file.
 use std::ffi::OsString;
+use std::os::unix::ffi::OsStrExt;
 
 /// The most files that are audited at a time.
 const MOST_JOBS: usize = 256;
@@ -37,7 +38,7 @@ impl Call {
     pub fn of(arguments: impl Iterator<Item = OsString>) -> Result<Call, Misuse> {
         let mut rest = arguments;
         let first = rest.next().ok_or(Misuse::NoFile)?;
-        match first.as_encoded_bytes() {
+        match first.as_bytes() {
             b"--help" => Ok(Call::Help),
             b"--version" => Ok(Call::Version),
             b"--list" => Ok(Call::List(one(rest).ok_or(Misuse::NotOneList)?)),

@@ -1,10 +1,11 @@
 //! A file's line, as the proved program has it (crates/framewitness/src/line.rt).
 use framewitness::{Finding, Refusal, Verdict};
 use std::ffi::OsStr;
+use std::os::unix::ffi::OsStrExt;
 
 /// A name is bytes, and is written as it was given.
 fn named(name: &OsStr, words: &str) -> Vec<u8> {
-    [name.as_encoded_bytes(), b": ", words.as_bytes(), b"\n"].concat()
+    [name.as_bytes(), b": ", words.as_bytes(), b"\n"].concat()
 }
 
 pub fn unread(name: &OsStr, why: &str) -> Vec<u8> {

@@ -5,6 +5,7 @@ use framewitness::{Recording, Refusal, Track, Verdict};
 use std::ffi::OsStr;
 use std::fmt::Write;
 use std::io;
+use std::os::unix::ffi::OsStrExt;
 
 #[derive(Clone, Copy)]
 pub enum Task {
@@ -23,7 +24,7 @@ const LONGEST_PATH: usize = 4096;
 
 pub fn of(task: Task, name: &OsStr) -> Told {
     if name.len() > LONGEST_PATH {
-        let start = &name.as_encoded_bytes()[..LONGEST_PATH];
+        let start = &name.as_bytes()[..LONGEST_PATH];
         return Told {
             text: line::too_long(start),
             status: Status::NoVerdict,
