@@ -22,7 +22,8 @@
    The caller sees to it that
    - file points to `length` bytes that nobody changes meanwhile, out to `room` words, and also to one word;
    - no pointer is NULL, not even with a length of 0; out and also are aligned to 8 bytes;
-   - the three lie apart from each other. */
+   - the three lie apart from each other;
+   - 1 MiB of the stack is left. */
 #ifndef FRAMEWITNESS_H
 #define FRAMEWITNESS_H
 

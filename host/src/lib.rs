@@ -5,6 +5,14 @@
 //! without a copy, and puts the answers into types. What a verdict says, and what it does not say, stands in the
 //! project's README.md.
 //!
+//! The library works on the stack of its caller and needs 1 MiB of it, half of what a thread of Rust's has. It keeps nothing
+//! between calls, so threads may ask at the same time.
+//!
+//! # To build with it
+//!
+//! `rt staticlib witness` proves the library and makes `target/staticlib/libwitness.a`. With that, cargo builds this folder
+//! like any other crate, for Linux on x86-64; `FRAMEWITNESS_ARCHIVE` names another folder in which the archive is.
+//!
 //! # To audit a file
 //!
 //! ```no_run

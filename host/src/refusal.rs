@@ -130,7 +130,11 @@ impl fmt::Display for Refusal {
             Refusal::NoSuchSample { number } => write!(f, ": {number}"),
             Refusal::NoRoom { needed } => write!(f, ": {needed} are needed"),
             Refusal::OutOfRange | Refusal::Mixed | Refusal::NotWritable => Ok(()),
-            _ => write!(f, ", {} into the file", Many(self.detail(), "byte")),
+            _ => write!(
+                f,
+                " (noticed {} into the file)",
+                Many(self.detail(), "byte")
+            ),
         }
     }
 }

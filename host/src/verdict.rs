@@ -239,7 +239,7 @@ impl fmt::Display for Finding {
             ),
             Finding::NumberBreak { position } => write!(
                 f,
-                "the number of the fragment that begins {} into the file does not follow the one before",
+                "the number of the fragment that lies {} into the file does not follow the one before",
                 Many(*position, "byte")
             ),
             Finding::TimeGap {
@@ -248,7 +248,7 @@ impl fmt::Display for Finding {
                 gap,
             } => write!(
                 f,
-                "the fragment that begins {} into the file begins {} of track {track} too {}",
+                "the fragment that lies {} into the file comes {} of track {track} too {}",
                 Many(*position, "byte"),
                 Many(gap.unsigned_abs(), "time unit"),
                 if *gap < 0 { "early" } else { "late" }

@@ -7,12 +7,12 @@ use std::fs::File;
 use std::io::ErrorKind;
 use std::os::raw::c_char;
 use std::os::unix::ffi::OsStrExt;
-use std::path::Path;
-use std::thread;
-use std::time::Duration;
+use std::os::unix::io::AsRawFd;
+use std::path::{Path, PathBuf};
 
 extern "C" {
     fn mkfifo(path: *const c_char, mode: u32) -> i32;
+    fn futimens(fd: i32, times: *const [[i64; 2]; 2]) -> i32;
 }
 
 pub fn maps_the_bytes(files: &Files) {
@@ -65,19 +65,27 @@ pub fn a_file_past_the_limit(files: &Files) {
     assert_eq!(large.tracks().unwrap_err(), refusal);
 }
 
+/// Of the size and the time of modification, each alone.
 pub fn tells_a_change(files: &Files) {
-    let path = files.made("changing.mp4", b"some");
-    let opened = || Recording::open(&path).unwrap();
-    let recording = opened();
+    let path = written_at(files, b"some", 1);
+    let recording = Recording::open(&path).unwrap();
     assert!(recording.is_unchanged().unwrap());
-    files.made("changing.mp4", b"some more");
+    written_at(files, b"more", 2);
     assert!(!recording.is_unchanged().unwrap());
-
-    let recording = opened();
+    written_at(files, b"some more", 1);
+    assert!(!recording.is_unchanged().unwrap());
+    written_at(files, b"more", 1); // this is what can not be told
     assert!(recording.is_unchanged().unwrap());
-    thread::sleep(Duration::from_millis(50)); // the clock of a file system is coarse
-    files.made("changing.mp4", b"same size");
-    assert!(!recording.is_unchanged().unwrap());
 
     assert!(Recording::lend(b"some").is_unchanged().unwrap());
+}
+
+// A file whose time of modification is so many seconds after the first there is.
+fn written_at(files: &Files, bytes: &[u8], seconds: i64) -> PathBuf {
+    let path = files.made("changing.mp4", bytes);
+    let file = File::open(&path).unwrap();
+    // SAFETY: the file is open, and the two times are two words each.
+    let done = unsafe { futimens(file.as_raw_fd(), &[[seconds, 0], [seconds, 0]]) };
+    assert_eq!(done, 0);
+    path
 }

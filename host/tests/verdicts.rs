@@ -103,25 +103,33 @@ pub fn of_every_number(files: &Files) {
     assert_eq!(refusals[11..], [0, 0, 0]);
 }
 
-// What the questions need at most, and a thread has besides.
-const STACK: usize = 8 << 20;
-
-/// One recording is asked from several threads.
+/// One recording is asked from several threads, which have just the stack that the documentation asks for.
 pub fn in_threads(files: &Files) {
-    let recording = Recording::open(files.path("ff_prog_av.mp4")).unwrap();
-    let verdict = recording.audit();
-    thread::scope(|scope| {
-        let threads = [0; 3].map(|_| {
-            let audit = || recording.audit();
-            thread::Builder::new()
-                .stack_size(STACK)
-                .spawn_scoped(scope, audit)
-                .unwrap()
+    for name in [
+        "ff_prog_av.mp4",
+        "clean_fragments_1024.mp4",
+        "clean_depth_10.mp4",
+    ] {
+        let recording = Recording::open(files.path(name)).unwrap();
+        let told = || {
+            let tracks = recording.tracks().unwrap();
+            let last = tracks
+                .last()
+                .map(|track| (track.samples(), track.sample(1)));
+            (recording.audit(), last)
+        };
+        let want = told();
+        thread::scope(|scope| {
+            let start = || {
+                thread::Builder::new()
+                    .stack_size(1 << 20)
+                    .spawn_scoped(scope, told)
+            };
+            for thread in [start(), start(), start()] {
+                assert_eq!(thread.unwrap().join().unwrap(), want);
+            }
         });
-        for thread in threads {
-            assert_eq!(thread.join().unwrap(), verdict);
-        }
-    });
+    }
 }
 
 fn audit(files: &Files, name: &str) -> Verdict {

@@ -82,8 +82,8 @@ pub fn of_findings(_: &Files) {
         "sample 2 of track 1, which begins 4294967344 bytes into the file, lies outside the media data",
         "sample 5 of track 1, which begins 147 bytes into the file, overlaps another one or lies before it",
         "the byte that follows the first 258 bytes of the file is media data and belongs to no sample",
-        "the number of the fragment that begins 505 bytes into the file does not follow the one before",
-        "the fragment that begins 1106 bytes into the file begins 1 time unit of track 1 too early",
+        "the number of the fragment that lies 505 bytes into the file does not follow the one before",
+        "the fragment that lies 1106 bytes into the file comes 1 time unit of track 1 too early",
     ];
     let numbers = [
         (7, 0, 0, 0),
@@ -107,7 +107,7 @@ pub fn of_findings(_: &Files) {
     };
     assert!(late
         .to_string()
-        .ends_with("begins 98 time units of track 2 too late"));
+        .ends_with("comes 98 time units of track 2 too late"));
     let least = Finding::TimeGap {
         track: 2,
         position: 9,
@@ -115,19 +115,19 @@ pub fn of_findings(_: &Files) {
     };
     assert!(least
         .to_string()
-        .ends_with("begins 9223372036854775808 time units of track 2 too early"));
+        .ends_with("comes 9223372036854775808 time units of track 2 too early"));
 }
 
 pub fn of_refusals(_: &Files) {
     let words = [
-        "the file ends too early, or a part of it is larger than the part that holds it, 48 bytes into the file",
-        "a part of the file is said to be smaller than its own heading, 1 byte into the file",
-        "parts of the file lie more than 10 deep in each other, 3 bytes into the file",
-        "the file has more bytes, tracks, samples, parts or fragments than are examined, 0 bytes into the file",
+        "the file ends too early, or a part of it is larger than the part that holds it (noticed 48 bytes into the file)",
+        "a part of the file is said to be smaller than its own heading (noticed 1 byte into the file)",
+        "parts of the file lie more than 10 deep in each other (noticed 3 bytes into the file)",
+        "the file has more bytes, tracks, samples, parts or fragments than are examined (noticed 0 bytes into the file)",
         "a part that every such file needs is missing: moov",
-        "a part that may be there only once is there twice, 6 bytes into the file",
-        "a part of the file has a version that is not known, 7 bytes into the file",
-        "a value in the file is not allowed, 8 bytes into the file",
+        "a part that may be there only once is there twice (noticed 6 bytes into the file)",
+        "a part of the file has a version that is not known (noticed 7 bytes into the file)",
+        "a value in the file is not allowed (noticed 8 bytes into the file)",
         "a place or a time that the file gives is out of range",
         "the file has fragments and also samples outside of them",
         "the track has no such sample: 7",
