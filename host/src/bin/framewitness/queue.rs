@@ -11,7 +11,7 @@ use std::sync::mpsc::{self, Receiver, RecvTimeoutError};
 use std::thread;
 use std::time::{Duration, Instant};
 
-/// The stack of one who audits, of which the library takes less than a quarter.
+/// The stack of one who audits: four times what the library needs.
 const STACK: usize = 4 << 20;
 
 /// A call that takes longer than this shows how far it is.
