@@ -42,11 +42,12 @@ pub struct Answer {
     pub also: u64,
 }
 
-// Each of the four requires nothing of its arguments but what Rust's own borrows are: `file` is read within its length
-// alone, `out` and `also` are written within theirs, and the three lie apart. So each `unsafe` below is sound.
+// Each of the four requires nothing of its arguments but that they are what Rust's borrows are: `file` is read within its
+// length alone, `out` and `also` are written within theirs, and the three lie apart.
 
 pub fn audit(file: &[u8], out: &mut [u64]) -> Answer {
     let mut also = 0;
+    // SAFETY: the pointers and lengths are those of borrows.
     let number = unsafe {
         framewitness_audit(
             file.as_ptr(),
@@ -61,6 +62,7 @@ pub fn audit(file: &[u8], out: &mut [u64]) -> Answer {
 
 pub fn list(file: &[u8], place: usize, out: &mut [u64]) -> Answer {
     let mut also = 0;
+    // SAFETY: the pointers and lengths are those of borrows.
     let number = unsafe {
         framewitness_list(
             file.as_ptr(),
@@ -76,6 +78,7 @@ pub fn list(file: &[u8], place: usize, out: &mut [u64]) -> Answer {
 
 pub fn sample(file: &[u8], place: usize, number: u32, out: &mut [u64]) -> Answer {
     let mut also = 0;
+    // SAFETY: the pointers and lengths are those of borrows.
     let number = unsafe {
         framewitness_sample(
             file.as_ptr(),
@@ -92,6 +95,7 @@ pub fn sample(file: &[u8], place: usize, number: u32, out: &mut [u64]) -> Answer
 
 pub fn summary(file: &[u8], place: usize, out: &mut [u64]) -> Answer {
     let mut also = 0;
+    // SAFETY: the pointers and lengths are those of borrows.
     let number = unsafe {
         framewitness_summary(
             file.as_ptr(),
