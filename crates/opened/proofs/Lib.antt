@@ -1,0 +1,2 @@
+mod Place
+mod Told
