@@ -1,1 +1,4 @@
 mod Cases
+pub mod Rates
+mod Vectors
+mod Unique
