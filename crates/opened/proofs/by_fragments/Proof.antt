@@ -1,50 +1,40 @@
+use mathlib.Core.Path.{refl}
+use Rattle.kin.specs.Kin.{boxes}
+use Rattle.audit.proofs.Recorded.{full}
+use Rattle.opened.proofs.Told.{not-filled, by-fragments}
 use borrow.Author.Needs.{needs}
 use Rattle.opened.proofs.by_fragments.Statement.{statement}
 use Rattle.opened.proofs.by_fragments.Tie as tie
-use Rattle.opened.proofs.by_fragments.Reads as reads
-use Rattle.opened.proofs.by_fragments.Lts as lts
-use Rattle.moofs.proofs.fill.Reads as fill-reads
-use Rattle.opened.proofs.by_trak.Reads as by-trak-reads
 
--- src/lib.rt:208:9
 slice-aggregate-fill : tie.Need-slice-aggregate-fill
-slice-aggregate-fill c = search needs
+slice-aggregate-fill c = full 49152 0
 
--- src/lib.rt:209:9
 slice-aggregate-fill-2 : tie.Need-slice-aggregate-fill-2
-slice-aggregate-fill-2 c = search needs
+slice-aggregate-fill-2 c = full 12288 0
 
--- src/lib.rt:200:11
 fill-requires : tie.Need-fill-requires
 fill-requires c κs = search needs
 
--- src/lib.rt:211:25
 enum-known-q : tie.Need-enum-known-q
 enum-known-q c = search needs
 
--- src/lib.rt:213:19
 enum-known-rows : tie.Need-enum-known-rows
 enum-known-rows c = search needs
 
--- src/lib.rt:224:13
 slice-aggregate-by-trak : tie.Need-slice-aggregate-by-trak
 slice-aggregate-by-trak c = search needs
 
--- src/lib.rt:215:14
 by-trak-requires : tie.Need-by-trak-requires
 by-trak-requires c κs = search needs
 
--- src/lib.rt:184:1
 returns : tie.Need-returns
-returns c = ?
+returns c = not-filled (c .before .before .before .before .before .before .before .before .before .before .args .file .now) (boxes (c .before .before .before .before .before .before .before .before .before .before .args .starts .now) (c .before .before .before .before .before .before .before .before .before .before .args .sizes .now) (c .before .before .before .before .before .before .before .before .before .before .args .kinds .now) (c .before .before .before .before .before .before .before .before .before .before .args .parents .now) (c .before .before .before .before .before .before .before .before .before .before .args .placed .now)) (c .before .before .before .before .before .before .before .before .before .before .args .n) (c .before .before .before .before .before .before .before .before .before .before .args .place) _ _ _ _ _ _ (c .before .before .before .before .before .fill .ensures) _ (c .before .q .given .1) refl
 
--- src/lib.rt:184:1
 same-length : tie.Need-same-length
 same-length c = search needs
 
--- src/lib.rt:184:1
 returns-2 : tie.Need-returns-2
-returns-2 c = ?
+returns-2 c = by-fragments (c .before .before .before .before .before .before .before .before .before .before .before .before .before .before .before .args .file .now) (boxes (c .before .before .before .before .before .before .before .before .before .before .before .before .before .before .before .args .starts .now) (c .before .before .before .before .before .before .before .before .before .before .before .before .before .before .before .args .sizes .now) (c .before .before .before .before .before .before .before .before .before .before .before .before .before .before .before .args .kinds .now) (c .before .before .before .before .before .before .before .before .before .before .before .before .before .before .before .args .parents .now) (c .before .before .before .before .before .before .before .before .before .before .before .before .before .before .before .args .placed .now)) (c .before .before .before .before .before .before .before .before .before .before .before .before .before .before .before .args .n) (c .before .before .before .before .before .before .before .before .before .before .before .before .before .before .before .args .place) _ _ _ _ _ _ (c .before .before .before .before .before .before .before .before .before .before .fill .ensures) _ _ (c .before .before .before .before .before .before .rows .given .1) (c .before .before .by-trak .ensures)
 
 pub by-fragments-spec : {M : Type 1} → statement M
 by-fragments-spec =

@@ -1,34 +1,29 @@
+use mathlib.Core.Path.{refl}
+use native.Mathlib.Omega.{arith}
+use Rattle.kin.specs.Kin.{boxes}
+use Rattle.opened.proofs.Place.{some, trak-most}
+use Rattle.opened.proofs.Told.{no-trak, a-trak}
 use borrow.Author.Needs.{needs}
 use Rattle.opened.proofs.by_trak.Statement.{statement}
 use Rattle.opened.proofs.by_trak.Tie as tie
-use Rattle.opened.proofs.by_trak.Reads as reads
-use Rattle.opened.proofs.by_trak.Lts as lts
-use Rattle.opened.proofs.by_tables.Reads as by-tables-reads
-use Rattle.opened.proofs.trak_at.Reads as trak-at-reads
 
--- src/lib.rt:159:9
 trak-at-requires : tie.Need-trak-at-requires
 trak-at-requires c κs = search needs
 
--- src/lib.rt:163:21
 cast-t16 : tie.Need-cast-t16
 cast-t16 c = search needs
 
--- src/lib.rt:161:9
 returns : tie.Need-returns
-returns c = ?
+returns c = no-trak _ _ _ _ _ _ _ (c .before .trak-at .ensures) _ _ _ (c .if1 .taken) refl
 
--- src/lib.rt:166:5
 by-tables-requires : tie.Need-by-tables-requires
-by-tables-requires c κs = ?
+by-tables-requires c κs = (some _ (c .before .if1 .left), omega (arith, c .before .before .trak-at .ensures, trak-most (boxes (c .before .before .before .before .before .before .args .starts .now) (c .before .before .before .before .before .before .args .sizes .now) (c .before .before .before .before .before .before .args .kinds .now) (c .before .before .before .before .before .before .args .parents .now) (c .before .before .before .before .before .before .args .placed .now)) (c .before .before .before .before .before .before .args .n) (c .before .before .before .before .before .before .args .place)))
 
--- src/lib.rt:142:1
 same-length : tie.Need-same-length
 same-length c = search needs
 
--- src/lib.rt:142:1
 returns-2 : tie.Need-returns-2
-returns-2 c = ?
+returns-2 c = a-trak _ _ _ _ _ _ _ (c .before .before .before .before .before .trak-at .ensures) _ _ _ (c .before .before .before .before .if1 .left) (c .before .before .by-tables .ensures)
 
 pub by-trak-spec : {M : Type 1} → statement M
 by-trak-spec =
