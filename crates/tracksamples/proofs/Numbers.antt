@@ -35,7 +35,7 @@ tables-number f t j s k e =
     omega (
       arith,
       zipped-number j 0 0 (sizes f (t .stsz)) (valuesOf (pairs f (t .stts)))
-      (place (valuesOf (groups f (t .stsc) (t .stco .count))) (chunks f (t .stco)) (sizes f (t .stsz))) (shifts f (t .ctts)) (syncs f (t .stss)) s k e,
+          (place (valuesOf (groups f (t .stsc) (t .stco .count))) (chunks f (t .stco)) (sizes f (t .stsz))) (shifts f (t .ctts)) (syncs f (t .stss)) s k e,
     )
 
 pub from-1 : (f : List ℕ) (s : Source) (rs : List Run) → Numbered (samplesFrom f s rs)
