@@ -94,16 +94,16 @@ judged-is (is m) = cases (refusalIn m)
 judged-is (isNot q) = refl
 
 module _ (f a b k p d l : List ℕ) (s : Scanned) (e : out s (columns a b k p d l) ≡ scanOf f empty) where
-  scanned : s ≡ scannedOf f
+  pub scanned : s ≡ scannedOf f
   unfolding scannedOf
   scanned = ap answerIn e
 
-  recorded : boxes a b k p l ≡ boxesOf f
+  pub recorded : boxes a b k p l ≡ boxesOf f
   unfolding boxesOf
   recorded = ap boxesIn e
 
   module _ (j : Judged) (ej : j ≡ refusalOf f (boxes a b k p l) s) where
-    judgement : j ≡ refusalOf f (boxesOf f) (scannedOf f)
+    pub judgement : j ≡ refusalOf f (boxesOf f) (scannedOf f)
     judgement = ej ∙ ap₂ (refusalOf f) recorded scanned
 
     pub answers-refused : (q : Refusal) → j ≡ Wrong q → Refused q ≡ auditFile f

@@ -1,6 +1,6 @@
-mod Recorded
+pub mod Recorded
 mod Gather
-mod Answers
+pub mod Answers
 mod Times
 pub mod Clean
 mod Computed

@@ -1,0 +1,4 @@
+mod Cases
+pub mod Rates
+mod Vectors
+mod Unique

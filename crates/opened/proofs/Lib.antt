@@ -1,0 +1,5 @@
+mod Place
+mod Told
+pub mod Judged
+mod Unique
+mod Vectors

@@ -1,0 +1,5 @@
+pub mod Numbers
+pub mod One
+mod Cases
+mod Vectors
+mod Unique

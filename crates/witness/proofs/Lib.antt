@@ -1,0 +1,3 @@
+mod Cases
+mod Unique
+mod Vectors
