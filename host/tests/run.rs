@@ -44,6 +44,10 @@ const TESTS: &[(&str, Test)] = &[
     ("tracks::media_bytes", tracks::media_bytes),
     ("tracks::media_outside", tracks::media_outside),
     ("tracks::summed_up", tracks::summed_up),
+    (
+        "tracks::past_all_microseconds",
+        tracks::past_all_microseconds,
+    ),
     ("answers::of_an_audit", answers::of_an_audit),
     ("answers::of_a_list", answers::of_a_list),
     ("answers::of_one_sample", answers::of_one_sample),

@@ -211,6 +211,16 @@ pub fn summed_up(files: &Files) {
     assert_eq!((bare.duration, bare.micros, bare.frame_rate), (0, 0, 0.0));
 }
 
+/// A duration that has no 64 bits in microseconds refuses no file, and yet its tracks.
+pub fn past_all_microseconds(files: &Files) {
+    let mut bytes = files.bytes("clean_version_1.mp4");
+    let mdhd = bytes.windows(4).position(|four| four == b"mdhd").unwrap();
+    bytes[mdhd + 28..mdhd + 36].fill(0xff); // its duration, in version 1
+    let recording = Recording::lend(&bytes);
+    assert!(recording.audit().is_clean());
+    assert_eq!(recording.tracks().unwrap_err(), Refusal::OutOfRange);
+}
+
 fn line_of(track: u32, s: &Sample) -> String {
     format!(
         "{track}\t{}\t{}\t{}\t{}\t{}\t{}\t{}\n",
