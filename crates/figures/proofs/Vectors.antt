@@ -16,7 +16,7 @@ use Rattle.samples.specs.declared.Listed.the-variants.{Done, Refused}
 use Rattle.trak.specs.Trak.{within}
 use Rattle.trak.proofs.Example as example
 use Rattle.trak_boxes.specs.TrakBoxes.{tkhdIn, mdhdIn, hdlrIn, stsdIn}
-use Rattle.figures.specs.Words.{letters, toldOf, figuresOf}
+use Rattle.figures.specs.Words.{toldOf, figuresOf}
 
 -- a trak with a tkhd and an mdia of these boxes
 abbrev with : List ℕ → List ℕ

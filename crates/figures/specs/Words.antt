@@ -7,7 +7,6 @@ use lib.ListN.{length}
 use lib.Seq.{sets}
 use lib.Dec.{leb}
 use Rattle.numbers.specs.Field.{refusal, when}
-use Rattle.numbers.specs.declared.Refusal.{Refusal}
 use Rattle.numbers.specs.declared.U32.{U32}
 use Rattle.numbers.specs.declared.U32.the-variants as u32
 use Rattle.numbers.specs.declared.U64.{U64}
@@ -22,7 +21,6 @@ use Rattle.tkhd.specs.declared.Found.the-variants as tkhd-is
 use Rattle.mdhd.specs.declared.Mdhd.{Mdhd}
 use Rattle.mdhd.specs.declared.Found as mdhd
 use Rattle.mdhd.specs.declared.Found.the-variants as mdhd-is
-use Rattle.hdlr.specs.declared.Hdlr.{Hdlr}
 use Rattle.hdlr.specs.declared.Found as hdlr
 use Rattle.hdlr.specs.declared.Found.the-variants as hdlr-is
 use Rattle.trak_boxes.specs.TrakBoxes.{tkhdIn, mdhdIn, hdlrIn, kindIn}

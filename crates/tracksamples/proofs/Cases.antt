@@ -1,12 +1,11 @@
 -- What the functions return, case by case, over plain variables. Assumes nothing.
-use Prim.Native.Nat.{ℕ, _+_, _^_, _≤_, _<_}
+use Prim.Native.Nat.{ℕ, _^_, _≤_, _<_}
 use mathlib.Core.Path.{_≡_, refl, sym, ap, _∙_}
-use mathlib.Core.List.{List, [], _∷_}
+use mathlib.Core.List.{List}
 use mathlib.Core.Bool.{Bool, true, false}
 use native.Mathlib.Omega.{arith}
 use lib.ListN.{length}
-use lib.Seq.{sets}
-use lib.Dec.{leb, ltb}
+use lib.Dec.{ltb}
 use lib.IntN.{ℤ}
 use borrow.Author.Tests.{ltb-false}
 use Rattle.numbers.specs.Field.{refusal, when}

@@ -1,5 +1,5 @@
 -- One sample as a record, by what a lookup tells of it and whether it is sync. Assumes nothing.
-use Prim.Native.Nat.{ℕ, zero, suc, _+_, _≤_, _<_}
+use Prim.Native.Nat.{ℕ, zero, suc}
 use mathlib.Core.Path.{_≡_, refl, sym, ap, ap₂, _∙_}
 use mathlib.Core.List.{List, [], _∷_}
 use mathlib.Core.Bool.{Bool, true, false, _&&_}
@@ -7,12 +7,10 @@ use native.Mathlib.Omega.{arith}
 use lib.ListN.{length, drop}
 use lib.Seq.{sets}
 use lib.Dec.{leb}
-use lib.IntN.{ℤ}
 use Rattle.numbers.specs.Field.{refusal, when}
 use Rattle.numbers.specs.declared.Refusal.{Refusal}
-use Rattle.numbers.proofs.Chain.{is-le, not-le}
 use Rattle.samples.specs.Lists.{held, located, firstOf, lookupOf}
-use Rattle.samples.specs.Records.{Output, output, numbersOf, putOf, listOf}
+use Rattle.samples.specs.Records.{output, numbersOf, putOf, listOf}
 use Rattle.samples.specs.declared.Sample.{Sample}
 use Rattle.samples.specs.declared.Located.{Located}
 use Rattle.samples.specs.declared.Found.the-variants as found

@@ -3,8 +3,8 @@
 use Prim.Native.Nat.{ℕ}
 use mathlib.Core.Path.{_≡_, refl}
 use mathlib.Core.List.{List, [], _∷_}
-use mathlib.Core.Bool.{Bool, true, false}
-use lib.ListN.{length, replicate}
+use mathlib.Core.Bool.{true, false}
+use lib.ListN.{replicate}
 use Rattle.numbers.specs.Number.{be, bytes}
 use Rattle.numbers.specs.Field.{refusal, field, when}
 use Rattle.numbers.specs.declared.U32.the-variants as u32

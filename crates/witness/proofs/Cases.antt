@@ -5,11 +5,13 @@ use mathlib.Core.List.{List}
 use lib.ListN.{length, set}
 use Rattle.numbers.proofs.Chain.{is-le, not-le}
 use Rattle.numbers.specs.declared.Refusal.{Refusal}
-use Rattle.samples.specs.Records.{bitsOf}
+use Rattle.samples.specs.Records.{bitsOf, Output, output}
+use Rattle.samples.specs.declared.Listed.{Listed}
 use Rattle.verdicts.specs.declared.Finding.{Finding}
 use Rattle.verdicts.specs.declared.Audited.{Audited}
 use Rattle.verdicts.specs.declared.Audited.the-variants.{Clean, Found, Refused}
-use Rattle.witness.specs.Says.{Said, said, inWords, fourSay, verdictSays}
+use Rattle.witness.specs.Says.{Said, said, answered, inWords, fourSay, verdictSays, answerBy, outputSays}
+use Rattle.witness.specs.declared.Answer.{Answer}
 
 module _ (also a b c d : ℕ) (o : List ℕ) where
   pub no-room : length o < 4 → said 12 4 o ≡ fourSay also a b c d o
@@ -31,3 +33,7 @@ module _ (x : Audited) (o : List ℕ) (z : Said) where
 
   pub refused : (q : Refusal) → x ≡ Refused q → z ≡ said (q .number) (q .detail) o → z ≡ verdictSays x o
   refused q e h = h ∙ sym (ap (λ (y : Audited). verdictSays y o) e)
+
+-- what was told of a track, as it is said
+pub told : (a : Answer) (l : Listed) (o : List ℕ) (x : Output) → a ≡ answerBy l → output l o ≡ x → answered a o ≡ outputSays x
+told a l o x e h = ap (λ (b : Answer). answered b o) e ∙ ap outputSays h

@@ -6,10 +6,14 @@ use lib.ListN.{length}
 use lib.Seq.{sets}
 use lib.Dec.{leb}
 use Rattle.numbers.specs.Field.{when}
-use Rattle.samples.specs.Records.{bitsOf}
+use Rattle.samples.specs.Records.{bitsOf, Output, output}
+use Rattle.samples.specs.declared.Listed.{Listed}
+use Rattle.samples.specs.declared.Listed.the-variants as listed
 use Rattle.verdicts.specs.declared.Audited.{Audited}
 use Rattle.verdicts.specs.declared.Audited.the-variants.{Clean, Found, Refused}
 use Rattle.audit.specs.File.{auditFile}
+use Rattle.opened.specs.Opened.{tellOf}
+use Rattle.opened.specs.declared.Question.the-variants as question
 use Rattle.witness.specs.declared.Answer.{Answer}
 
 pub data Said : Type 0 where
@@ -17,6 +21,8 @@ pub data Said : Type 0 where
 
 abbrev pub answered : Answer → List ℕ → Said
 answered a o = said (a .number) (a .also) o
+
+-- THE VERDICT
 
 -- words at the start, and what is told beside them; 12 with how many they are where they have no room
 unfoldable pub inWords : List ℕ → ℕ → List ℕ → Said
@@ -33,3 +39,23 @@ verdictSays (Refused q) o = said (q .number) (q .detail) o
 
 abbrev pub auditSays : List ℕ → List ℕ → Said
 auditSays f o = verdictSays (auditFile f) o
+
+-- ONE TRACK
+
+-- beside the words: how many records or words they are, or the refusal's detail
+abbrev pub answerBy : Listed → Answer
+answerBy (listed.Done n) = record { number = 0; also = n }
+answerBy (listed.Refused q) = record { number = q .number; also = q .detail }
+
+abbrev pub outputSays : Output → Said
+outputSays (output l o) = answered (answerBy l) o
+
+-- of the track at a place in the moov, counted from 0: its samples, one of them, its figures
+abbrev pub listSays : List ℕ → ℕ → List ℕ → Said
+listSays f place o = outputSays (tellOf f place question.List o)
+
+abbrev pub sampleSays : List ℕ → ℕ → ℕ → List ℕ → Said
+sampleSays f place number o = outputSays (tellOf f place (question.Sample number) o)
+
+abbrev pub summarySays : List ℕ → ℕ → List ℕ → Said
+summarySays f place o = outputSays (tellOf f place question.Summary o)

@@ -2,7 +2,9 @@
 // returned; `also` is what document 01 has returned beside it, and is written with every answer.
 ghost use mathlib.Core.Path.{_≡_};
 ghost use Rattle.samples.specs.Records.{bitsOf};
-ghost use Rattle.witness.specs.Says.{said, answered, fourSay, verdictSays, auditSays};
+ghost use Rattle.witness.specs.Says.{said, answered, fourSay, verdictSays, auditSays, answerBy, listSays, sampleSays, summarySays};
+use opened::Question;
+use samples::Listed;
 use verdicts::Audited;
 
 pub(crate) struct Answer {
@@ -77,4 +79,69 @@ pub extern "C" fn framewitness_audit(file: &[u8], out: &mut [u64], also: &mut u6
     let verdict = say_verdict(audited, out);
     *also = verdict.also;
     verdict.number
+}
+
+// How many records or words were written, or the refusal.
+fn say_listed(listed: Listed) -> Answer
+    ensures { λ r. ⌜ r ≡ answerBy listed ⌝ }
+{
+    match listed {
+        Listed::Done(n) => Answer {
+            number: 0,
+            also: n as u64,
+        },
+        Listed::Refused(why) => Answer {
+            number: why.number,
+            also: why.detail as u64,
+        },
+    }
+}
+
+// The samples of the track at a place in the moov box, counted from 0: a record of seven words each.
+#[no_mangle]
+pub extern "C" fn framewitness_list(
+    file: &[u8],
+    place: usize,
+    out: &mut [u64],
+    also: &mut u64,
+) -> u32
+    ensures { λ r. ⌜ said r (now (also .exit)) (now (out .exit)) ≡ listSays (now (file .entry)) place (now (out .entry)) ⌝ }
+{
+    let listed = opened::tell(file, place, Question::List, out);
+    let list = say_listed(listed);
+    *also = list.also;
+    list.number
+}
+
+// The sample of that number, counted from 1, of the track at a place: one such record.
+#[no_mangle]
+pub extern "C" fn framewitness_sample(
+    file: &[u8],
+    place: usize,
+    number: u32,
+    out: &mut [u64],
+    also: &mut u64,
+) -> u32
+    ensures { λ r. ⌜ said r (now (also .exit)) (now (out .exit)) ≡ sampleSays (now (file .entry)) place number (now (out .entry)) ⌝ }
+{
+    let listed = opened::tell(file, place, Question::Sample(number), out);
+    let sample = say_listed(listed);
+    *also = sample.also;
+    sample.number
+}
+
+// The figures of the track at a place, in twelve words.
+#[no_mangle]
+pub extern "C" fn framewitness_summary(
+    file: &[u8],
+    place: usize,
+    out: &mut [u64],
+    also: &mut u64,
+) -> u32
+    ensures { λ r. ⌜ said r (now (also .exit)) (now (out .exit)) ≡ summarySays (now (file .entry)) place (now (out .entry)) ⌝ }
+{
+    let listed = opened::tell(file, place, Question::Summary, out);
+    let summary = say_listed(listed);
+    *also = summary.also;
+    summary.number
 }

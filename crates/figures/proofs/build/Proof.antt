@@ -3,35 +3,25 @@ use Rattle.figures.proofs.Cases.{built}
 use borrow.Author.Needs.{needs}
 use Rattle.figures.proofs.build.Statement.{statement}
 use Rattle.figures.proofs.build.Tie as tie
-use Rattle.figures.proofs.build.Reads as reads
-use Rattle.figures.proofs.build.Lts as lts
-use Rattle.figures.proofs.frames.Reads as frames-reads
 
--- src/lib.rt:70:17
 cast-t8 : tie.Need-cast-t8
 cast-t8 c = search needs
 
--- src/lib.rt:73:20
 cast-t11 : tie.Need-cast-t11
 cast-t11 c = search needs
 
--- src/lib.rt:78:17
 frames-requires : tie.Need-frames-requires
 frames-requires c κs = search needs
 
--- src/lib.rt:79:16
 cast-t15 : tie.Need-cast-t15
 cast-t15 c = omega (arith, c .struct-known3 .given)
 
--- src/lib.rt:80:17
 cast-t16 : tie.Need-cast-t16
 cast-t16 c = omega (arith, c .struct-known4 .given)
 
--- src/lib.rt:81:19
 cast-t18 : tie.Need-cast-t18
 cast-t18 c = search needs
 
--- src/lib.rt:58:1
 returns : tie.Need-returns
 returns c = built (c .before .before .before .before .before .before .args .head) (c .before .before .before .before .before .before .args .media) (c .before .before .before .before .before .before .args .handler) (c .before .before .before .before .before .before .args .entry) (c .before .before .before .before .before .before .args .micros) (c .before .before .before .before .before .before .args .samples) (c .before .before .before .before .before .before .args .bytes) _ (c .before .before .before .frames .ensures)
 

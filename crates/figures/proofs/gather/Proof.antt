@@ -2,49 +2,34 @@ use Rattle.figures.proofs.Cases.{no-tkhd, no-mdhd, both-read}
 use borrow.Author.Needs.{needs}
 use Rattle.figures.proofs.gather.Statement.{statement}
 use Rattle.figures.proofs.gather.Tie as tie
-use Rattle.figures.proofs.gather.Reads as reads
-use Rattle.figures.proofs.gather.Lts as lts
-use Rattle.figures.proofs.rest.Reads as rest-reads
-use Rattle.trak_boxes.proofs.mdhd.Reads as mdhd-reads
-use Rattle.trak_boxes.proofs.tkhd.Reads as tkhd-reads
 
--- src/lib.rt:112:11
 tkhd-requires : tie.Need-tkhd-requires
 tkhd-requires c κs = search needs
 
--- src/lib.rt:113:30
 enum-known-first : tie.Need-enum-known-first
 enum-known-first c = search needs
 
--- src/lib.rt:114:25
 enum-known-head : tie.Need-enum-known-head
 enum-known-head c = search needs
 
--- src/lib.rt:114:40
 mdhd-requires : tie.Need-mdhd-requires
 mdhd-requires c κs = search needs
 
--- src/lib.rt:115:34
 enum-known-second : tie.Need-enum-known-second
 enum-known-second c = search needs
 
--- src/lib.rt:116:29
 enum-known-media : tie.Need-enum-known-media
 enum-known-media c = search needs
 
--- src/lib.rt:116:39
 rest-requires : tie.Need-rest-requires
 rest-requires c κs = search needs
 
--- src/lib.rt:109:1
 returns : tie.Need-returns
 returns c = no-tkhd (c .before .before .before .before .before .args .trak .now) (c .before .before .before .before .before .args .samples) (c .before .before .before .before .before .args .bytes) _ (c .before .before .before .tkhd .ensures) _ (c .before .first .given .1)
 
--- src/lib.rt:109:1
 returns-2 : tie.Need-returns-2
 returns-2 c = no-mdhd (c .before .before .before .before .before .before .before .before .before .args .trak .now) (c .before .before .before .before .before .before .before .before .before .args .samples) (c .before .before .before .before .before .before .before .before .before .args .bytes) _ (c .before .before .before .before .before .before .before .tkhd .ensures) _ (c .before .before .before .before .before .head .given .1) _ (c .before .before .before .mdhd .ensures) _ (c .before .second .given .1)
 
--- src/lib.rt:109:1
 returns-3 : tie.Need-returns-3
 returns-3 c = both-read (c .before .before .before .before .before .before .before .before .before .before .args .trak .now) (c .before .before .before .before .before .before .before .before .before .before .args .samples) (c .before .before .before .before .before .before .before .before .before .before .args .bytes) _ (c .before .before .before .before .before .before .before .before .tkhd .ensures) _ (c .before .before .before .before .before .before .head .given .1) _ (c .before .before .before .before .mdhd .ensures) _ _ (c .before .before .media .given .1) (c .rest .ensures)
 

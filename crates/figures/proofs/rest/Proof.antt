@@ -2,66 +2,46 @@ use Rattle.figures.proofs.Cases.{no-hdlr, no-entry, no-micros, all-read
 use borrow.Author.Needs.{needs}
 use Rattle.figures.proofs.rest.Statement.{statement}
 use Rattle.figures.proofs.rest.Tie as tie
-use Rattle.figures.proofs.rest.Reads as reads
-use Rattle.figures.proofs.rest.Lts as lts
-use Rattle.figures.proofs.build.Reads as build-reads
-use Rattle.trak_boxes.proofs.entry_kind.Reads as entry-kind-reads
-use Rattle.trak_boxes.proofs.hdlr.Reads as hdlr-reads
-use Rattle.types.proofs.duration.micros.Reads as micros-reads
 
--- src/lib.rt:89:11
 hdlr-requires : tie.Need-hdlr-requires
 hdlr-requires c κs = search needs
 
--- src/lib.rt:90:30
 enum-known-third : tie.Need-enum-known-third
 enum-known-third c = search needs
 
--- src/lib.rt:91:25
 enum-known-d : tie.Need-enum-known-d
 enum-known-d c = search needs
 
--- src/lib.rt:91:37
 entry-kind-requires : tie.Need-entry-kind-requires
 entry-kind-requires c κs = search needs
 
--- src/lib.rt:92:26
 enum-known-fourth : tie.Need-enum-known-fourth
 enum-known-fourth c = search needs
 
--- src/lib.rt:93:21
 enum-known-entry : tie.Need-enum-known-entry
 enum-known-entry c = search needs
 
--- src/lib.rt:93:37
 micros-requires : tie.Need-micros-requires
 micros-requires c κs = search needs
 
--- src/lib.rt:94:30
 enum-known-fifth : tie.Need-enum-known-fifth
 enum-known-fifth c = search needs
 
--- src/lib.rt:95:25
 enum-known-micros : tie.Need-enum-known-micros
 enum-known-micros c = search needs
 
--- src/lib.rt:95:45
 build-requires : tie.Need-build-requires
 build-requires c κs = search needs
 
--- src/lib.rt:86:1
 returns : tie.Need-returns
 returns c = no-hdlr (c .before .before .before .before .before .args .trak .now) (c .before .before .before .before .before .args .head) (c .before .before .before .before .before .args .media) (c .before .before .before .before .before .args .samples) (c .before .before .before .before .before .args .bytes) _ (c .before .before .before .hdlr .ensures) _ (c .before .third .given .1)
 
--- src/lib.rt:86:1
 returns-2 : tie.Need-returns-2
 returns-2 c = no-entry (c .before .before .before .before .before .before .before .before .before .args .trak .now) (c .before .before .before .before .before .before .before .before .before .args .head) (c .before .before .before .before .before .before .before .before .before .args .media) (c .before .before .before .before .before .before .before .before .before .args .samples) (c .before .before .before .before .before .before .before .before .before .args .bytes) _ (c .before .before .before .before .before .before .before .hdlr .ensures) _ (c .before .before .before .before .before .d .given .1) _ (c .before .before .before .entry-kind .ensures) _ (c .before .fourth .given .1)
 
--- src/lib.rt:86:1
 returns-3 : tie.Need-returns-3
 returns-3 c = no-micros (c .before .before .before .before .before .before .before .before .before .before .before .before .before .args .trak .now) (c .before .before .before .before .before .before .before .before .before .before .before .before .before .args .head) (c .before .before .before .before .before .before .before .before .before .before .before .before .before .args .media) (c .before .before .before .before .before .before .before .before .before .before .before .before .before .args .samples) (c .before .before .before .before .before .before .before .before .before .before .before .before .before .args .bytes) _ (c .before .before .before .before .before .before .before .before .before .before .before .hdlr .ensures) _ (c .before .before .before .before .before .before .before .before .before .d .given .1) _ (c .before .before .before .before .before .before .before .entry-kind .ensures) _ (c .before .before .before .before .before .entry .given .1) _ (c .before .before .before .micros .ensures) _ (c .before .fifth .given .1)
 
--- src/lib.rt:86:1
 returns-4 : tie.Need-returns-4
 returns-4 c = all-read (c .before .before .before .before .before .before .before .before .before .before .before .before .before .before .args .trak .now) (c .before .before .before .before .before .before .before .before .before .before .before .before .before .before .args .head) (c .before .before .before .before .before .before .before .before .before .before .before .before .before .before .args .media) (c .before .before .before .before .before .before .before .before .before .before .before .before .before .before .args .samples) (c .before .before .before .before .before .before .before .before .before .before .before .before .before .before .args .bytes) _ (c .before .before .before .before .before .before .before .before .before .before .before .before .hdlr .ensures) _ (c .before .before .before .before .before .before .before .before .before .before .d .given .1) _ (c .before .before .before .before .before .before .before .before .entry-kind .ensures) _ (c .before .before .before .before .before .before .entry .given .1) _ (c .before .before .before .before .micros .ensures) _ _ (c .before .before .micros2 .given .1) (c .build .ensures)
 

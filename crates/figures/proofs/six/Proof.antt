@@ -4,82 +4,61 @@ use Rattle.figures.proofs.Cases.{stored}
 use borrow.Author.Needs.{needs}
 use Rattle.figures.proofs.six.Statement.{statement}
 use Rattle.figures.proofs.six.Tie as tie
-use Rattle.figures.proofs.six.Reads as reads
-use Rattle.figures.proofs.six.Lts as lts
 
--- src/lib.rt:126:5
 mul-out : tie.Need-mul-out
 mul-out c = search needs
 
--- src/lib.rt:126:5
 slice-write-out : tie.Need-slice-write-out
 slice-write-out c = search needs
 
--- src/lib.rt:127:9
 add-out : tie.Need-add-out
 add-out c = search needs
 
--- src/lib.rt:127:5
 mul-out-2 : tie.Need-mul-out-2
 mul-out-2 c = search needs
 
--- src/lib.rt:127:5
 slice-write-out-2 : tie.Need-slice-write-out-2
 slice-write-out-2 c = simp length-set (omega arith)
 
--- src/lib.rt:128:9
 add-out-2 : tie.Need-add-out-2
 add-out-2 c = search needs
 
--- src/lib.rt:128:5
 mul-out-3 : tie.Need-mul-out-3
 mul-out-3 c = search needs
 
--- src/lib.rt:128:5
 slice-write-out-3 : tie.Need-slice-write-out-3
 slice-write-out-3 c = simp length-set (omega arith)
 
--- src/lib.rt:129:9
 add-out-3 : tie.Need-add-out-3
 add-out-3 c = search needs
 
--- src/lib.rt:129:5
 mul-out-4 : tie.Need-mul-out-4
 mul-out-4 c = search needs
 
--- src/lib.rt:129:5
 slice-write-out-4 : tie.Need-slice-write-out-4
 slice-write-out-4 c = simp length-set (omega arith)
 
--- src/lib.rt:130:9
 add-out-4 : tie.Need-add-out-4
 add-out-4 c = search needs
 
--- src/lib.rt:130:5
 mul-out-5 : tie.Need-mul-out-5
 mul-out-5 c = search needs
 
--- src/lib.rt:130:5
 slice-write-out-5 : tie.Need-slice-write-out-5
 slice-write-out-5 c = simp length-set (omega arith)
 
--- src/lib.rt:131:9
 add-out-5 : tie.Need-add-out-5
 add-out-5 c = search needs
 
--- src/lib.rt:131:5
 mul-out-6 : tie.Need-mul-out-6
 mul-out-6 c = search needs
 
--- src/lib.rt:131:5
 slice-write-out-6 : tie.Need-slice-write-out-6
 slice-write-out-6 c = simp length-set (omega arith)
 
--- src/lib.rt:122:1
 same-length : tie.Need-same-length
 same-length c = search needs
 
--- src/lib.rt:122:1
 returns : tie.Need-returns
 returns c = stored (c .args .out .now) (c .args .at) (c .args .a) (c .args .b) (c .args .c) (c .args .d) (c .args .e) (c .args .f)
 

@@ -7,24 +7,16 @@ use Rattle.tracksamples.proofs.Cases.{by-runs, by-tables}
 use borrow.Author.Needs.{needs}
 use Rattle.tracksamples.proofs.found.Statement.{statement}
 use Rattle.tracksamples.proofs.found.Tie as tie
-use Rattle.tracksamples.proofs.found.Reads as reads
-use Rattle.tracksamples.proofs.found.Lts as lts
-use Rattle.lookup.proofs.sample.Reads as sample-reads
-use Rattle.runlookup.proofs.sample.Reads as sample-reads′
 
--- src/lib.rt:44:9
 sample-requires : tie.Need-sample-requires
 sample-requires c κs = search needs
 
--- src/lib.rt:44:9
 returns : tie.Need-returns
 returns c = c .sample .ensures ∙ ap (λ (l : List Sample). lookupOf l (c .before .before .before .before .args .number)) (by-runs (c .before .before .before .before .args .file .now) (c .before .before .before .before .args .source) (rowsOf (c .before .before .before .before .args .runs .now) (c .before .before .before .before .args .rows)) (c .before .if1 .taken))
 
--- src/lib.rt:46:5
 sample-requires-2 : tie.Need-sample-requires-2
 sample-requires-2 c κs = search needs
 
--- src/lib.rt:40:1
 returns-2 : tie.Need-returns-2
 returns-2 c = c .sample2 .ensures ∙ ap (λ (l : List Sample). lookupOf l (c .before .before .before .before .args .number)) (by-tables (c .before .before .before .before .args .file .now) (c .before .before .before .before .args .source) (rowsOf (c .before .before .before .before .args .runs .now) (c .before .before .before .before .args .rows)) (c .before .if1 .left))
 

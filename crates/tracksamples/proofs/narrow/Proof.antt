@@ -3,39 +3,28 @@ use Rattle.tracksamples.proofs.Cases.{narrow-over, narrow-high, narrow-
 use borrow.Author.Needs.{needs}
 use Rattle.tracksamples.proofs.narrow.Statement.{statement}
 use Rattle.tracksamples.proofs.narrow.Tie as tie
-use Rattle.tracksamples.proofs.narrow.Reads as reads
-use Rattle.tracksamples.proofs.narrow.Lts as lts
-use Rattle.tracksamples.proofs.over.Reads as over-reads
 
--- src/lib.rt:121:37
 enum-told : tie.Need-enum-told
 enum-told c = search needs
 
--- src/lib.rt:121:37
 over-requires : tie.Need-over-requires
 over-requires c κs = search needs
 
--- src/lib.rt:122:19
 enum-known-tally : tie.Need-enum-known-tally
 enum-known-tally c = search needs
 
--- src/lib.rt:124:37
 over-requires-2 : tie.Need-over-requires-2
 over-requires-2 c κs = search needs
 
--- src/lib.rt:124:17
 returns : tie.Need-returns
 returns c = narrow-high (c .before .before .before .before .before .args .tally) _ (c .before .before .before .tally .given .1) (c .before .if1 .taken) _ (c .over2 .ensures)
 
--- src/lib.rt:126:21
 cast-t7 : tie.Need-cast-t7
 cast-t7 c = search needs
 
--- src/lib.rt:117:1
 returns-2 : tie.Need-returns-2
 returns-2 c = narrow-over (c .before .before .before .args .tally) (c .before .enum-told .given .1) _ (c .over .ensures)
 
--- src/lib.rt:117:1
 returns-3 : tie.Need-returns-3
 returns-3 c = narrow-is (c .before .before .before .before .args .tally) _ (c .before .before .tally .given .1) (omega arith)
 

@@ -3,23 +3,16 @@ use Rattle.tracksamples.proofs.Cases.{no-room, one-there}
 use borrow.Author.Needs.{needs}
 use Rattle.tracksamples.proofs.put_one.Statement.{statement}
 use Rattle.tracksamples.proofs.put_one.Tie as tie
-use Rattle.tracksamples.proofs.put_one.Reads as reads
-use Rattle.tracksamples.proofs.put_one.Lts as lts
-use Rattle.samples.proofs.put.Reads as put-reads
 
--- src/lib.rt:64:9
 returns : tie.Need-returns
 returns c = no-room (c .before .before .args .out .now) (sampleBy (c .before .before .args .number) (c .before .before .args .place) (c .before .before .args .sync)) (c .if1 .taken)
 
--- src/lib.rt:69:5
 put-requires : tie.Need-put-requires
 put-requires c κs = search needs
 
--- src/lib.rt:60:1
 same-length : tie.Need-same-length
 same-length c = search needs
 
--- src/lib.rt:60:1
 returns-2 : tie.Need-returns-2
 returns-2 c = one-there (c .before .before .before .before .before .before .before .args .out .now) (c .before .before .before .before .before .before .before .args .number) (c .before .before .before .before .before .before .before .args .place) (c .before .before .before .before .before .before .before .args .sync) _ _ (c .before .before .before .before .before .if1 .left) (search needs) (c .before .before .put .ensures)
 

@@ -2,27 +2,19 @@ use Rattle.tracksamples.proofs.Cases.{whole-over, whole-is}
 use borrow.Author.Needs.{needs}
 use Rattle.tracksamples.proofs.whole.Statement.{statement}
 use Rattle.tracksamples.proofs.whole.Tie as tie
-use Rattle.tracksamples.proofs.whole.Reads as reads
-use Rattle.tracksamples.proofs.whole.Lts as lts
-use Rattle.tracksamples.proofs.over.Reads as over-reads
 
--- src/lib.rt:146:37
 enum-told : tie.Need-enum-told
 enum-told c = search needs
 
--- src/lib.rt:146:37
 over-requires : tie.Need-over-requires
 over-requires c κs = search needs
 
--- src/lib.rt:147:19
 enum-known-tally : tie.Need-enum-known-tally
 enum-known-tally c = search needs
 
--- src/lib.rt:142:1
 returns : tie.Need-returns
 returns c = whole-over (c .before .before .before .args .tally) (c .before .enum-told .given .1) _ (c .over .ensures)
 
--- src/lib.rt:142:1
 returns-2 : tie.Need-returns-2
 returns-2 c = whole-is (c .before .before .before .args .tally) _ (c .before .tally .given .1)
 
