@@ -7,7 +7,6 @@ use mathlib.Core.Bool.{Bool}
 use lib.ListN.{getD}
 use lib.Dec.{eqb}
 use Rattle.numbers.specs.Field.{refusal, when}
-use Rattle.numbers.specs.declared.Refusal.{Refusal}
 use Rattle.numbers.specs.declared.U32.{U32}
 use Rattle.numbers.specs.declared.U32.the-variants as u32
 use Rattle.numbers.specs.declared.U64.{U64}
