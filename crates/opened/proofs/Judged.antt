@@ -1,11 +1,11 @@
 -- What is told of a track is what the audit judges: where a file opens as a movie, the track at a place in the moov is the
 -- track at that place in the movie. Assumes nothing.
-use Prim.Native.Nat.{ℕ, zero, suc, _-_, _<_, _≤_, min}
+use Prim.Native.Nat.{ℕ, zero, suc, _-_, _<_, min}
 use mathlib.Core.Path.{_≡_, refl, sym, ap, ap₂, _∙_}
 use mathlib.Core.List.{List, [], _∷_}
 use mathlib.Core.Bool.{Bool}
 use native.Mathlib.Omega.{arith}
-use lib.ListN.{length, getD, take, drop, length-take}
+use lib.ListN.{length, getD, drop, length-take}
 use lib.Seq.{getD-take}
 use Rattle.numbers.specs.declared.Refusal.{Refusal}
 use Rattle.numbers.proofs.Chain.{is-ne}
@@ -14,7 +14,7 @@ use Rattle.rows.specs.declared.Judged.{Judged}
 use Rattle.rows.specs.declared.Judged.the-variants.{Fine, Wrong}
 use Rattle.places.specs.Visit.{boxLimit}
 use Rattle.places.specs.Kinds as kinds
-use Rattle.samples.specs.Records.{Output, output, listOf}
+use Rattle.samples.specs.Records.{output, listOf}
 use Rattle.samples.specs.declared.Sample.{Sample}
 use Rattle.samples.specs.declared.Listed.the-variants.{Done, Refused}
 use Rattle.kin.specs.Kin.{Boxes}
@@ -25,7 +25,7 @@ use Rattle.stbl.specs.declared.Found.{Found}
 use Rattle.stbl.specs.declared.Found.the-variants as found
 use Rattle.traks.specs.Traks.{traksOf, numberOf, tablesOf}
 use Rattle.runs.specs.declared.Run.{Run}
-use Rattle.moofs.specs.Moofs.{All, all, refused, before, Fragment, fragmentsOf, allRuns}
+use Rattle.moofs.specs.Moofs.{All, all, refused, Fragment, fragmentsOf, allRuns}
 use Rattle.payloads.specs.Payloads.{payloadsFrom}
 use Rattle.follows.specs.Fragments.{moofsOf}
 use Rattle.opening.specs.Opening.{refusalOf}

@@ -2,7 +2,7 @@
 use Prim.Native.Nat.{ℕ, suc, _-_}
 use mathlib.Core.Path.{_≡_, refl, sym, ap, ap₂, _∙_}
 use mathlib.Core.List.{List, [], _∷_}
-use mathlib.Core.Bool.{Bool, true, false}
+use mathlib.Core.Bool.{Bool}
 use lib.ListN.{length, replicate}
 use native.Mathlib.Omega.{arith}
 use lib.Dec.{ltb}
@@ -33,7 +33,7 @@ use Rattle.opening.specs.Opening.{recorded as rows, refusalOf}
 use Rattle.runs.specs.declared.Run.{Run}
 use Rattle.runtable.specs.Table.{rowsOf}
 use Rattle.moofs.specs.Moofs as moofs
-use Rattle.moofs.specs.Moofs.{All, all, refused, Fragment, fragmentsOf, allRuns, fillOf}
+use Rattle.moofs.specs.Moofs.{Fragment, fragmentsOf, fillOf}
 use Rattle.moofs.specs.declared.Filled.{Filled}
 use Rattle.moofs.specs.declared.Filled.the-variants as fill
 use Rattle.moofs.proofs.Laws.{Rows, filled}
@@ -41,7 +41,7 @@ use Rattle.follows.specs.Fragments.{moofsOf}
 use Rattle.movie.specs.Movie.{isFragmented}
 use Rattle.tracksamples.specs.TrackSamples.{samplesFrom, oneOf, countOf, totalOf}
 use Rattle.figures.specs.Words.{figuresOf}
-use Rattle.audit.specs.Boxes.{empty, scannedOf, boxesOf, countOf as rowCount}
+use Rattle.audit.specs.Boxes.{empty, boxesOf, countOf as rowCount}
 use Rattle.audit.proofs.Answers.{fragments-refused, scanned, recorded, judgement}
 use Rattle.opened.specs.Opened.{byTotal, byCount, answerOf, sourceOf, trakAt, byTables, byTrak, tellIn, tellOf}
 use Rattle.opened.specs.declared.Question.{Question}

@@ -1,13 +1,12 @@
--- What is told of one track of a file, by its place in the moov, counted from 0: its number, its samples, one of them, or
--- its figures. First the file is refused by its boxes (1 to 8), or by its fragments (9). A refusal leaves the buffer as it was.
--- Assumes nothing.
+-- What is told of one track of a file (document 01, Scope: sample lookup and listing, track summary), by its place in the
+-- moov, counted from 0: its number, its samples, one of them, or its figures. First the file is refused by its boxes (1 to 8:
+-- A1), then by its fragments (9: A13). A refusal leaves the buffer as it was. Assumes nothing.
 use Prim.Native.Nat.{ℕ, _-_}
 use mathlib.Core.List.{List}
 use mathlib.Core.Bool.{Bool}
 use lib.ListN.{getD}
 use lib.Dec.{eqb}
 use Rattle.numbers.specs.Field.{refusal, when}
-use Rattle.numbers.specs.declared.Refusal.{Refusal}
 use Rattle.numbers.specs.declared.U32.{U32}
 use Rattle.numbers.specs.declared.U32.the-variants as u32
 use Rattle.numbers.specs.declared.U64.{U64}

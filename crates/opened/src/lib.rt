@@ -1,7 +1,6 @@
 // What is told of one track of a file, from the file's bytes: its number, its samples, one of them, or its figures.
 ghost use mathlib.Core.Path.{_≡_};
 ghost use Prim.Native.Nat.{_<_, _≤_};
-ghost use mathlib.Core.Bool.{Bool};
 ghost use Rattle.kin.specs.Kin.{boxes};
 ghost use Rattle.samples.specs.Records.{output};
 ghost use Rattle.runtable.specs.Table.{rowsOf};
