@@ -1,11 +1,11 @@
 -- What is told of a track is what the audit judges: where a file opens as a movie, the track at a place in the moov is the
 -- track at that place in the movie. Assumes nothing.
-use Prim.Native.Nat.{ℕ, zero, suc, _-_, _<_, _≤_, min}
+use Prim.Native.Nat.{ℕ, zero, suc, _-_, _<_, min}
 use mathlib.Core.Path.{_≡_, refl, sym, ap, ap₂, _∙_}
 use mathlib.Core.List.{List, [], _∷_}
 use mathlib.Core.Bool.{Bool}
 use native.Mathlib.Omega.{arith}
-use lib.ListN.{length, getD, take, drop, length-take}
+use lib.ListN.{length, getD, drop, length-take}
 use lib.Seq.{getD-take}
 use Rattle.numbers.specs.declared.Refusal.{Refusal}
 use Rattle.numbers.proofs.Chain.{is-ne}
@@ -14,9 +14,9 @@ use Rattle.rows.specs.declared.Judged.{Judged}
 use Rattle.rows.specs.declared.Judged.the-variants.{Fine, Wrong}
 use Rattle.places.specs.Visit.{boxLimit}
 use Rattle.places.specs.Kinds as kinds
-use Rattle.samples.specs.Records.{Output, output, listOf}
+use Rattle.samples.specs.Records.{output, listOf}
 use Rattle.samples.specs.declared.Sample.{Sample}
-use Rattle.samples.specs.declared.Listed.the-variants.{Refused}
+use Rattle.samples.specs.declared.Listed.the-variants.{Done, Refused}
 use Rattle.kin.specs.Kin.{Boxes}
 use Rattle.inside.specs.Inside.{child}
 use Rattle.contents.specs.Held.{partOf}
@@ -25,7 +25,7 @@ use Rattle.stbl.specs.declared.Found.{Found}
 use Rattle.stbl.specs.declared.Found.the-variants as found
 use Rattle.traks.specs.Traks.{traksOf, numberOf, tablesOf}
 use Rattle.runs.specs.declared.Run.{Run}
-use Rattle.moofs.specs.Moofs.{All, all, refused, before, Fragment, fragmentsOf, allRuns}
+use Rattle.moofs.specs.Moofs.{All, all, refused, Fragment, fragmentsOf, allRuns}
 use Rattle.payloads.specs.Payloads.{payloadsFrom}
 use Rattle.follows.specs.Fragments.{moofsOf}
 use Rattle.opening.specs.Opening.{refusalOf}
@@ -82,15 +82,19 @@ module _ (f : List ℕ) (m : Movie) where
 
 -- A TRACK OF ITS MOVIE
 
+abbrev pub numberIn : Track → ℕ
+numberIn (track n a l) = n
+
 module _ (f : List ℕ) (t : Boxes) (n : ℕ) (b : Bool) (rs : List Run) where
   -- the trak that tells it
-  record Told (rows : List ℕ) (place : ℕ) (l : List Sample) : Type 0 where
+  record Told (rows : List ℕ) (place : ℕ) (tr : Track) : Type 0 where
     pub row : ℕ
     pub tables : tables.Track
     pub there : place < length rows
     pub at : getD rows place 0 ≡ row
     pub reads : tablesOf f t n row ≡ found.Is tables
-    pub are : samplesBy b f tables rs (numberOf f t n row) ≡ l
+    pub named : numberOf f t n row ≡ numberIn tr
+    pub are : samplesBy b f tables rs (numberOf f t n row) ≡ samplesOf tr
 
   abbrev listIn : All tables.Track → List tables.Track
   listIn (all ts) = ts
@@ -108,7 +112,7 @@ module _ (f : List ℕ) (t : Boxes) (n : ℕ) (b : Bool) (rs : List Run) where
   dropped (suc i) = refl
 
   told : (rows : List ℕ) (ts : List tables.Track) → tablesIn f t n rows ≡ all ts → (place : ℕ) (tr : Track) (rest : List Track)
-      → drop place (tracksBy b f rs (numbersOf f t n rows) ts) ≡ tr ∷ rest → Told rows place (samplesOf tr)
+      → drop place (tracksBy b f rs (numbersOf f t n rows) ts) ≡ tr ∷ rest → Told rows place tr
   told [] ts e place tr rest h = no-track tr rest (sym (dropped place) ∙ h)
   told (p ∷ ps) ts e place tr rest h =
       cases (λ us eu i k. told ps us eu i tr rest k) (tablesOf f t n p) refl (tablesIn f t n ps) refl e place h
@@ -116,17 +120,17 @@ module _ (f : List ℕ) (t : Boxes) (n : ℕ) (b : Bool) (rs : List Run) where
       cut : {A : Type 0} (q : Refusal) → _≡_ {A = All tables.Track} (refused q) (all ts) → A
       cut q z = let y : _≡_ {A = ℕ} 0 1 = cc in absurd (omega arith)
 
-      cases : ((us : List tables.Track) → tablesIn f t n ps ≡ all us → (i : ℕ) → drop i (tracksBy b f rs (numbersOf f t n ps) us) ≡ tr ∷ rest → Told ps i (samplesOf tr))
+      cases : ((us : List tables.Track) → tablesIn f t n ps ≡ all us → (i : ℕ) → drop i (tracksBy b f rs (numbersOf f t n ps) us) ≡ tr ∷ rest → Told ps i tr)
           → (x : Found) → tablesOf f t n p ≡ x → (us : All tables.Track) → tablesIn f t n ps ≡ us → withTables x us ≡ all ts → (i : ℕ)
-          → drop i (tracksBy b f rs (numberOf f t n p ∷ numbersOf f t n ps) ts) ≡ tr ∷ rest → Told (p ∷ ps) i (samplesOf tr)
+          → drop i (tracksBy b f rs (numberOf f t n p ∷ numbersOf f t n ps) ts) ≡ tr ∷ rest → Told (p ∷ ps) i tr
       cases on (found.Refused q) ex us eu z i k = cut q z
       cases on (found.Is y) ex (refused q) eu z i k = cut q z
       cases on (found.Is y) ex (all us) eu z zero k =
           let w = ap (λ (vs : List tables.Track). tracksBy b f rs (numberOf f t n p ∷ numbersOf f t n ps) vs) (ap listIn z) ∙ k in
-          record { row = p; tables = y; there = omega arith; at = refl; reads = ex; are = ap (λ (l : List Track). samplesOf (headOr tr l)) w }
+          record { row = p; tables = y; there = omega arith; at = refl; reads = ex; named = ap (λ (l : List Track). numberIn (headOr tr l)) w; are = ap (λ (l : List Track). samplesOf (headOr tr l)) w }
       cases on (found.Is y) ex (all us) eu z (suc i) k =
           let w = on us eu i (ap (λ (vs : List tables.Track). drop (suc i) (tracksBy b f rs (numberOf f t n p ∷ numbersOf f t n ps) vs)) (ap listIn z) ∙ k) in
-          record { row = w .row; tables = w .tables; there = omega (arith, w .there); at = w .at; reads = w .reads; are = w .are }
+          record { row = w .row; tables = w .tables; there = omega (arith, w .there); at = w .at; reads = w .reads; named = w .named; are = w .are }
 
 -- WHAT IS TOLD OF IT
 
@@ -140,7 +144,7 @@ module _ (f : List ℕ) (m : Movie) (e : openOf f ≡ is m) (place : ℕ) (tr : 
   abbrev fragmented : Bool
   fragmented = isFragmented (moofsOf f (opens .fragments))
 
-  tells : Told f (boxesOf f) (countOf f) fragmented runs (firstTraks (boxesOf f) (countOf f)) place (samplesOf tr)
+  tells : Told f (boxesOf f) (countOf f) fragmented runs (firstTraks (boxesOf f) (countOf f)) place tr
   tells =
       told f (boxesOf f) (countOf f) fragmented runs (firstTraks (boxesOf f) (countOf f)) (opens .tables) (opens .tables-are) place tr rest
       (sym (ap (λ (x : Movie). drop place (tracksOf x)) (opens .made-of)) ∙ h)
@@ -155,7 +159,7 @@ module _ (f : List ℕ) (m : Movie) (e : openOf f ≡ is m) (place : ℕ) (tr : 
   row-some = rows-some (boxesOf f) kinds.trak (child (boxesOf f) (countOf f) kinds.moov 0) (min (countOf f) boxLimit - 0) 0 place (omega (arith, few))
 
   -- the answer to any question, by the trak's bytes and the samples that are judged
-  pub track-told : (q : Question) (o : List ℕ) → tellOf f place q o ≡ answerOf q (partOf f (boxesOf f) (trakAt (boxesOf f) (countOf f) place - 1)) (samplesOf tr) o
+  pub track-told : (q : Question) (o : List ℕ) → tellOf f place q o ≡ answerOf q (numberIn tr) (partOf f (boxesOf f) (trakAt (boxesOf f) (countOf f) place - 1)) (samplesOf tr) o
   unfolding tellOf tellIn byTrak
   track-told q o =
       let t : Boxes = boxesOf f in
@@ -165,9 +169,13 @@ module _ (f : List ℕ) (m : Movie) (e : openOf f ≡ is m) (place : ℕ) (tr : 
       ∙ ap (tellIn f t n place q o) (opens .fragments-are)
       ∙ sym (is-ne _ _ _ row 0 (λ z. omega (arith, row-some, z)) refl)
       ∙ ap (byTables f t n runs fragmented row q o) (ap (tablesOf f t n) row-is ∙ tells .reads)
-      ∙ ap (λ (l : List Sample). answerOf q (partOf f t (row - 1)) l o) (ap (λ (r : ℕ). samplesBy fragmented f (tells .tables) runs (numberOf f t n r)) row-is ∙ tells .are)
+      ∙ ap₂ (λ (k : ℕ) (l : List Sample). answerOf q k (partOf f t (row - 1)) l o) (ap (numberOf f t n) row-is ∙ tells .named) (ap (λ (r : ℕ). samplesBy fragmented f (tells .tables) runs (numberOf f t n r)) row-is ∙ tells .are)
 
-  -- so the list is that of the samples that are judged, and a sample one of them
+  -- so the number and the list are those of the track that is judged, and a sample is one of its samples
+  pub number-told : (o : List ℕ) → tellOf f place question.Number o ≡ output (Done (numberIn tr)) o
+  unfolding answerOf
+  number-told o = track-told question.Number o
+
   pub list-told : (o : List ℕ) → tellOf f place question.List o ≡ listOf (samplesOf tr) o
   unfolding answerOf
   list-told o = track-told question.List o

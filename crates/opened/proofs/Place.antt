@@ -14,7 +14,7 @@ use Rattle.places.specs.Visit.{boxLimit}
 use Rattle.places.specs.Kinds.{moov, trak}
 use Rattle.kin.specs.Kin.{Boxes}
 use Rattle.inside.specs.Inside.{inParent, rowsIn, insideOf, child}
-use Rattle.traks.specs.Traks.{traksOf, nextTrak}
+use Rattle.traks.specs.Traks.{nextTrak}
 use Rattle.traks.proofs.Laws.{next-none, next-more}
 use Rattle.opened.specs.Opened.{trakAt}
 use Rattle.opened.specs.Inside.{goesOn}

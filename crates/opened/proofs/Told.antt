@@ -2,7 +2,7 @@
 use Prim.Native.Nat.{ℕ, suc, _-_}
 use mathlib.Core.Path.{_≡_, refl, sym, ap, ap₂, _∙_}
 use mathlib.Core.List.{List, [], _∷_}
-use mathlib.Core.Bool.{Bool, true, false}
+use mathlib.Core.Bool.{Bool}
 use lib.ListN.{length, replicate}
 use native.Mathlib.Omega.{arith}
 use lib.Dec.{ltb}
@@ -20,7 +20,7 @@ use Rattle.rows.specs.declared.Judged.the-variants.{Fine, Wrong}
 use Rattle.places.specs.Kinds.{trak}
 use Rattle.samples.specs.Records.{Output, output, listOf}
 use Rattle.samples.specs.declared.Sample.{Sample}
-use Rattle.samples.specs.declared.Listed.the-variants.{Refused}
+use Rattle.samples.specs.declared.Listed.the-variants.{Done, Refused}
 use Rattle.kin.specs.Kin.{Boxes, boxes}
 use Rattle.contents.specs.Held.{partOf}
 use Rattle.tables.specs.declared.Track.{Track}
@@ -33,7 +33,7 @@ use Rattle.opening.specs.Opening.{recorded as rows, refusalOf}
 use Rattle.runs.specs.declared.Run.{Run}
 use Rattle.runtable.specs.Table.{rowsOf}
 use Rattle.moofs.specs.Moofs as moofs
-use Rattle.moofs.specs.Moofs.{All, all, refused, Fragment, fragmentsOf, allRuns, fillOf}
+use Rattle.moofs.specs.Moofs.{Fragment, fragmentsOf, fillOf}
 use Rattle.moofs.specs.declared.Filled.{Filled}
 use Rattle.moofs.specs.declared.Filled.the-variants as fill
 use Rattle.moofs.proofs.Laws.{Rows, filled}
@@ -41,7 +41,7 @@ use Rattle.follows.specs.Fragments.{moofsOf}
 use Rattle.movie.specs.Movie.{isFragmented}
 use Rattle.tracksamples.specs.TrackSamples.{samplesFrom, oneOf, countOf, totalOf}
 use Rattle.figures.specs.Words.{figuresOf}
-use Rattle.audit.specs.Boxes.{empty, scannedOf, boxesOf, countOf as rowCount}
+use Rattle.audit.specs.Boxes.{empty, boxesOf, countOf as rowCount}
 use Rattle.audit.proofs.Answers.{fragments-refused, scanned, recorded, judgement}
 use Rattle.opened.specs.Opened.{byTotal, byCount, answerOf, sourceOf, trakAt, byTables, byTrak, tellIn, tellOf}
 use Rattle.opened.specs.declared.Question.{Question}
@@ -68,18 +68,22 @@ module _ (bytes : List ℕ) (l : List Sample) (o : List ℕ) (z : Output) (x : U
 
 -- THE QUESTION
 
-module _ (bytes : List ℕ) (l : List Sample) (o : List ℕ) (z : Output) (x : Question) where
-  pub listed : x ≡ question.List → z ≡ listOf l o → z ≡ answerOf x bytes l o
+module _ (number : ℕ) (bytes : List ℕ) (l : List Sample) (o : List ℕ) (z : Output) (x : Question) where
+  pub numbered : x ≡ question.Number → z ≡ output (Done number) o → z ≡ answerOf x number bytes l o
   unfolding answerOf
-  listed e h = h ∙ ap (λ (y : Question). answerOf y bytes l o) (sym e)
+  numbered e h = h ∙ ap (λ (y : Question). answerOf y number bytes l o) (sym e)
 
-  pub one : (n : ℕ) → x ≡ question.Sample n → z ≡ oneOf l n o → z ≡ answerOf x bytes l o
+  pub listed : x ≡ question.List → z ≡ listOf l o → z ≡ answerOf x number bytes l o
   unfolding answerOf
-  one n e h = h ∙ ap (λ (y : Question). answerOf y bytes l o) (sym e)
+  listed e h = h ∙ ap (λ (y : Question). answerOf y number bytes l o) (sym e)
 
-  pub summed : x ≡ question.Summary → z ≡ byCount bytes l o (countOf l) → z ≡ answerOf x bytes l o
+  pub one : (n : ℕ) → x ≡ question.Sample n → z ≡ oneOf l n o → z ≡ answerOf x number bytes l o
   unfolding answerOf
-  summed e h = h ∙ ap (λ (y : Question). answerOf y bytes l o) (sym e)
+  one n e h = h ∙ ap (λ (y : Question). answerOf y number bytes l o) (sym e)
+
+  pub summed : x ≡ question.Summary → z ≡ byCount bytes l o (countOf l) → z ≡ answerOf x number bytes l o
+  unfolding answerOf
+  summed e h = h ∙ ap (λ (y : Question). answerOf y number bytes l o) (sym e)
 
 -- THE TRACK
 
@@ -89,9 +93,9 @@ module _ (f : List ℕ) (t : Boxes) (n : ℕ) (rs : List Run) (b : Bool) (row : 
   tables-refused x e r w h = h ∙ ap (byTables f t n rs b row q o) (sym w ∙ e)
 
   pub by-tables : (x : Found) → x ≡ tablesOf f t n row → (y : Track) → x ≡ found.Is y → (k : ℕ) → k ≡ numberOf f t n row
-      → (bytes : List ℕ) → bytes ≡ partOf f t (row - 1) → z ≡ answerOf q bytes (samplesFrom f (sourceOf y k b) rs) o → z ≡ byTables f t n rs b row q o (tablesOf f t n row)
+      → (bytes : List ℕ) → bytes ≡ partOf f t (row - 1) → z ≡ answerOf q k bytes (samplesFrom f (sourceOf y k b) rs) o → z ≡ byTables f t n rs b row q o (tablesOf f t n row)
   by-tables x e y w k ek bytes eb h =
-      h ∙ ap₂ (λ (s : List ℕ) (j : ℕ). answerOf q s (samplesFrom f (sourceOf y j b) rs) o) eb ek ∙ ap (byTables f t n rs b row q o) (sym w ∙ e)
+      h ∙ ap₂ (λ (s : List ℕ) (j : ℕ). answerOf q j s (samplesFrom f (sourceOf y j b) rs) o) eb ek ∙ ap (byTables f t n rs b row q o) (sym w ∙ e)
 
 module _ (f : List ℕ) (t : Boxes) (n : ℕ) (rs : List Run) (b : Bool) (place row : ℕ) (e : row ≡ trakAt t n place) (q : Question) (o : List ℕ) (z : Output) where
   pub no-trak : row ≡ 0 → z ≡ output (Refused (refusal 5 trak)) o → z ≡ byTrak f t n rs b (trakAt t n place) q o

@@ -1,13 +1,12 @@
--- What is told of one track of a file, by its place in the moov, counted from 0: its samples, one of them, or its figures.
--- First the file is refused by its boxes (1 to 8), or by its fragments (9). A refusal leaves the buffer as it was.
--- Assumes nothing.
+-- What is told of one track of a file (document 01, Scope: sample lookup and listing, track summary), by its place in the
+-- moov, counted from 0: its number, its samples, one of them, or its figures. First the file is refused by its boxes (1 to 8:
+-- A1), then by its fragments (9: A13). A refusal leaves the buffer as it was. Assumes nothing.
 use Prim.Native.Nat.{ℕ, _-_}
 use mathlib.Core.List.{List}
 use mathlib.Core.Bool.{Bool}
 use lib.ListN.{getD}
 use lib.Dec.{eqb}
 use Rattle.numbers.specs.Field.{refusal, when}
-use Rattle.numbers.specs.declared.Refusal.{Refusal}
 use Rattle.numbers.specs.declared.U32.{U32}
 use Rattle.numbers.specs.declared.U32.the-variants as u32
 use Rattle.numbers.specs.declared.U64.{U64}
@@ -16,7 +15,7 @@ use Rattle.rows.specs.Judge.{settle}
 use Rattle.places.specs.Kinds.{trak}
 use Rattle.samples.specs.Records.{Output, output, listOf}
 use Rattle.samples.specs.declared.Sample.{Sample}
-use Rattle.samples.specs.declared.Listed.the-variants.{Refused}
+use Rattle.samples.specs.declared.Listed.the-variants.{Done, Refused}
 use Rattle.kin.specs.Kin.{Boxes}
 use Rattle.contents.specs.Held.{partOf}
 use Rattle.opening.specs.Opening.{refusalOf}
@@ -46,11 +45,12 @@ abbrev pub byCount : List ℕ → List Sample → List ℕ → U32 → Output
 byCount bytes l o (u32.Is count) = byTotal bytes count o (totalOf l)
 byCount bytes l o (u32.Refused q) = output (Refused q) o
 
--- of a track with these samples, whose trak has these bytes
-unfoldable pub answerOf : Question → List ℕ → List Sample → List ℕ → Output
-answerOf question.List bytes l o = listOf l o
-answerOf (question.Sample n) bytes l o = oneOf l n o
-answerOf question.Summary bytes l o = byCount bytes l o (countOf l)
+-- of a track with this number and these samples, whose trak has these bytes
+unfoldable pub answerOf : Question → ℕ → List ℕ → List Sample → List ℕ → Output
+answerOf question.Number number bytes l o = output (Done number) o
+answerOf question.List number bytes l o = listOf l o
+answerOf (question.Sample n) number bytes l o = oneOf l n o
+answerOf question.Summary number bytes l o = byCount bytes l o (countOf l)
 
 -- THE TRACK
 
@@ -64,7 +64,7 @@ sourceOf tables number fragmented = record { tables = tables; number = number; f
 -- by its tables, and by the runs where the file is fragmented
 abbrev pub byTables : List ℕ → Boxes → ℕ → List Run → Bool → ℕ → Question → List ℕ → Found → Output
 byTables f t n rs fragmented row q o (found.Is tables) =
-    answerOf q (partOf f t (row - 1)) (samplesFrom f (sourceOf tables (numberOf f t n row) fragmented) rs) o
+    answerOf q (numberOf f t n row) (partOf f t (row - 1)) (samplesFrom f (sourceOf tables (numberOf f t n row) fragmented) rs) o
 byTables f t n rs fragmented row q o (found.Refused r) = output (Refused r) o
 
 -- 5 where there is no such track

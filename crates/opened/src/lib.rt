@@ -1,7 +1,6 @@
-// What is told of one track of a file, from the file's bytes: its samples, one of them, or its figures.
+// What is told of one track of a file, from the file's bytes: its number, its samples, one of them, or its figures.
 ghost use mathlib.Core.Path.{_≡_};
 ghost use Prim.Native.Nat.{_<_, _≤_};
-ghost use mathlib.Core.Bool.{Bool};
 ghost use Rattle.kin.specs.Kin.{boxes};
 ghost use Rattle.samples.specs.Records.{output};
 ghost use Rattle.runtable.specs.Table.{rowsOf};
@@ -22,8 +21,9 @@ use stbl::Found;
 use tracksamples::Source;
 use tree::Scanned;
 
-// What is asked of a track: all its samples, the one of a number, or its figures.
+// What is asked of a track: its number, all its samples, the one of a number, or its figures.
 pub enum Question {
+    Number,
     List,
     Sample(u32),
     Summary,
@@ -58,9 +58,10 @@ fn answer(
     question: Question,
     out: &mut [u64],
 ) -> Listed
-    ensures { λ r. ⌜ output r (now (out .exit)) ≡ answerOf question (now (trak .entry)) (samplesFrom (now (file .entry)) source (rowsOf (now (runs .entry)) rows)) (now (out .entry)) ⌝ }
+    ensures { λ r. ⌜ output r (now (out .exit)) ≡ answerOf question (source .number) (now (trak .entry)) (samplesFrom (now (file .entry)) source (rowsOf (now (runs .entry)) rows)) (now (out .entry)) ⌝ }
 {
     match question {
+        Question::Number => Listed::Done(source.number as usize),
         Question::List => tracksamples::list(file, source, runs, rows, out),
         Question::Sample(number) => tracksamples::sample(file, source, runs, rows, number, out),
         Question::Summary => summary(file, source, runs, rows, trak, out),

@@ -1,7 +1,8 @@
 -- The ways of an answer, over plain variables. Assumes nothing.
 use Prim.Native.Nat.{ℕ, _≤_, _<_}
 use mathlib.Core.Path.{_≡_, refl, sym, ap, _∙_}
-use mathlib.Core.List.{List}
+use mathlib.Core.List.{List, [], _∷_}
+use native.Mathlib.Omega.{arith}
 use lib.ListN.{length, set}
 use Rattle.numbers.proofs.Chain.{is-le, not-le}
 use Rattle.numbers.specs.declared.Refusal.{Refusal}
@@ -37,3 +38,8 @@ module _ (x : Audited) (o : List ℕ) (z : Said) where
 -- what was told of a track, as it is said
 pub told : (a : Answer) (l : Listed) (o : List ℕ) (x : Output) → a ≡ answerBy l → output l o ≡ x → answered a o ≡ outputSays x
 told a l o x e h = ap (λ (b : Answer). answered b o) e ∙ ap outputSays h
+
+-- no words were lent for it
+pub told-alone : (a : Answer) (l : Listed) (o : List ℕ) (x : Output) → length o ≡ 0 → a ≡ answerBy l → output l o ≡ x → answered a [] ≡ outputSays x
+told-alone a l [] x n e h = told a l [] x e h
+told-alone a l (w ∷ o) x n e h = absurd (omega (arith, n))

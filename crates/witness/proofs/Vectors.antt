@@ -20,7 +20,7 @@ use Rattle.verdicts.specs.declared.Audited.the-variants.{Clean, Found, Refused}
 use Rattle.audit.specs.Boxes.{scannedOf, boxesOf}
 use Rattle.audit.specs.File.{openOf, auditFile}
 use Rattle.opened.specs.Opened.{tellOf}
-use Rattle.witness.specs.Says.{said, inWords, verdictSays, outputSays, auditSays, listSays, sampleSays, summarySays}
+use Rattle.witness.specs.Says.{said, inWords, verdictSays, outputSays, auditSays, trackSays, listSays, sampleSays, summarySays}
 
 -- what lies past the four words stays
 case-clean : verdictSays (Clean 2 289 33420) (replicate 5 9) ≡ said 0 0 (2 ∷ 289 ∷ 33420 ∷ 0 ∷ 9 ∷ [])
@@ -52,6 +52,10 @@ case-not-told = refl
 case-audit : (o : List ℕ) → auditSays [] o ≡ said 5 ftyp o
 unfolding when siblings kidsOf puts scannedOf boxesOf some nextIn child first each needed inFile firstFault refusalOf openOf auditFile
 case-audit o = refl
+
+case-track : (place : ℕ) → trackSays [] place ≡ said 5 ftyp []
+unfolding when siblings kidsOf puts scannedOf boxesOf some nextIn child first each needed inFile firstFault refusalOf tellOf
+case-track place = refl
 
 case-list : (place : ℕ) (o : List ℕ) → listSays [] place o ≡ said 5 ftyp o
 unfolding when siblings kidsOf puts scannedOf boxesOf some nextIn child first each needed inFile firstFault refusalOf tellOf

@@ -50,7 +50,11 @@ answerBy (listed.Refused q) = record { number = q .number; also = q .detail }
 abbrev pub outputSays : Output → Said
 outputSays (output l o) = answered (answerBy l) o
 
--- of the track at a place in the moov, counted from 0: its samples, one of them, its figures
+-- of the track at a place in the moov, counted from 0: its number, for which no words are lent; its samples, one of them,
+-- its figures
+abbrev pub trackSays : List ℕ → ℕ → Said
+trackSays f place = outputSays (tellOf f place question.Number [])
+
 abbrev pub listSays : List ℕ → ℕ → List ℕ → Said
 listSays f place o = outputSays (tellOf f place question.List o)
 

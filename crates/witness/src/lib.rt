@@ -1,8 +1,9 @@
 // The functions that a program in Rust or C calls, each on a lent file and on lent words. The number of the answer is
 // returned; `also` is what document 01 has returned beside it, and is written with every answer.
 ghost use mathlib.Core.Path.{_≡_};
+ghost use mathlib.Core.List.{[]};
 ghost use Rattle.samples.specs.Records.{bitsOf};
-ghost use Rattle.witness.specs.Says.{said, answered, fourSay, verdictSays, auditSays, answerBy, listSays, sampleSays, summarySays};
+ghost use Rattle.witness.specs.Says.{said, answered, fourSay, verdictSays, auditSays, answerBy, trackSays, listSays, sampleSays, summarySays};
 use opened::Question;
 use samples::Listed;
 use verdicts::Audited;
@@ -97,7 +98,19 @@ fn say_listed(listed: Listed) -> Answer
     }
 }
 
-// The samples of the track at a place in the moov box, counted from 0: a record of seven words each.
+// The number of the track at a place in the moov box, counted from 0; no words are lent for it.
+#[no_mangle]
+pub extern "C" fn framewitness_track(file: &[u8], place: usize, also: &mut u64) -> u32
+    ensures { λ r. ⌜ said r (now (also .exit)) [] ≡ trackSays (now (file .entry)) place ⌝ }
+{
+    let mut none = [0u64; 0];
+    let listed = opened::tell(file, place, Question::Number, &mut none);
+    let track = say_listed(listed);
+    *also = track.also;
+    track.number
+}
+
+// The samples of the track at a place: a record of seven words each.
 #[no_mangle]
 pub extern "C" fn framewitness_list(
     file: &[u8],
