@@ -871,8 +871,8 @@ def stored():
         yield box[0], kind, bytes.fromhex(digits), read[2], copy[2], [int(number) for number in differs[2].split()]
 
 
-def asking(kind, data):
-    return bytes(4) + kind.ljust(4).encode() + data
+def asking(letters, data):
+    return bytes(4) + letters + data
 
 
 # what crates/copy_entries tells; of the others the second implementation alone answers
@@ -885,7 +885,7 @@ def is_known(part):
 
 def members(what, kind, data):
     """What our answer is made of."""
-    return [asking(kind, data)] if what == "ask" else [part for _, part in parts(kind, data)]
+    return [asking(kind.ljust(4).encode(), data)] if what == "ask" else [part for _, part in parts(kind, data)]
 
 
 def pack():
