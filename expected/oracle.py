@@ -13,7 +13,6 @@ stores some hundreds of these boxes with the original's answers in expected/orac
 import collections
 import functools
 import pathlib
-import random
 import sys
 
 import boxes
@@ -309,7 +308,7 @@ def corpus(kind):
 
 
 def hangs(kind, data):
-    """Whether the original would count for seconds, or for ever: a few such boxes are enough."""
+    """Whether the original would count for seconds, or for ever."""
     if kind == "trun":
         head = rust.stated(data)[1]
         return not boxes.number(data, head + 1, 3) & 0xF00 and boxes.number(data, head + 4, 4) > 1 << 24
@@ -335,22 +334,6 @@ class Boxes(original.Domain):
 
     def is_slow(self, case):
         return hangs(*case)
-
-    def made(self, count, seed):
-        """Of those that the original is slow with a few."""
-        rnd = random.Random(seed)
-        cases = self.ordered()
-        if len(cases) > count:
-            cases = rnd.sample(cases, count)
-        slow = 0
-        known = set(cases)
-        while len(cases) < count:
-            case = self.chance(rnd)
-            slow += self.is_slow(case)
-            if case not in known and not (self.is_slow(case) and slow > 6):
-                known.add(case)
-                cases.append(case)
-        return cases
 
     def parts(self, case):
         return [part for _, part in rust.parts(*case)]

@@ -436,19 +436,6 @@ class Entries(Parts):
             base = large(kind, content) if rnd.random() < .05 else box(kind, content)
         return kind, base if rnd.random() < .4 else oracle.damaged(kind, base, rnd)
 
-    def made(self, count, seed):
-        rnd = random.Random(seed)
-        cases = self.ordered()
-        if len(cases) > count:
-            cases = rnd.sample(cases, count)
-        known = set(cases)
-        while len(cases) < count:
-            case = self.chance(rnd)
-            if case not in known:
-                known.add(case)
-                cases.append(case)
-        return cases
-
     def parts(self, case):
         return [part for _, part in rust_entries.parts(*case)]
 
@@ -466,6 +453,59 @@ class Entries(Parts):
         numbers = rust_entries.classes(kind, data, mine, answer)
         numbers += [] if answer == model else [f"the model has another answer: {model}"]
         return [(question, numbers) for question in self.asked(case, theirs) if numbers]
+
+
+def seconds():
+    """Streams with a second DecoderConfig of every length, behind the first or before it, and a second DecoderSpecificInfo."""
+    layer, one = desc(6, b"\2"), desc(4, decoder())
+    other = decoder(config(5, 6, 1), 0x66, 0x11, 9, 7, 8)
+    for length in range(len(other) + 1):
+        two = desc(4, other[:length])
+        for inside in (one + two, two + one):
+            yield from (es(inside=inside), es(inside=inside, after=b""))
+        yield from (es(after=layer + two), es(after=two + layer))
+    for info in (config(5, 6, 1), config(42, 4, 2), config(2, 15, 2)):
+        for length in range(len(info) + 1):
+            for first in (config(), None, b"", b"\x12"):
+                inside = desc(4, decoder(first, after=desc(5, info[:length])))
+                yield from (es(inside=inside), es(inside=inside, after=b""))
+
+
+def any_descriptor(rnd, depth=0):
+    """Of any kind, with others in it; now and then its length is another."""
+    tag = rnd.choice((3, 4, 4, 4, 5, 5, 6, 0x80, rnd.randrange(256)))
+
+    def perhaps(part):
+        return any_descriptor(rnd, depth + 1) if depth < 3 and rnd.random() < part else b""
+
+    content = rnd.randbytes(rnd.randrange(rnd.choice((2, 6, 18))))
+    if tag == 4 and rnd.random() < .7:
+        content = decoder(rnd.choice((config(), None, rnd.randbytes(rnd.randrange(5)))), rnd.randrange(256), rnd.randrange(256),
+                          before=perhaps(.3), after=perhaps(.4))
+    elif tag == 5:
+        content = rnd.choice((config(5, 6, 1), config(42, 4, 2), rnd.randbytes(rnd.randrange(6))))
+    elif tag == 3 and rnd.random() < .5:
+        content = es(rnd.randrange(1 << 16), inside=perhaps(1))
+    length = None if rnd.random() < .85 else max(len(content) + rnd.randrange(-3, 4), 0)
+    return desc(tag, content, rnd.choice((None, None, None, 2, 4)), length)
+
+
+class Streams(Entries):
+    """Entries and esds boxes with rows of descriptors of any kind."""
+    name = "streams"
+
+    def ordered(self):
+        return list(dict.fromkeys((kind, made) for content in seconds() for kind, made in (
+            ("esds", box("esds", esds(content))), ("mp4a", box("mp4a", sound(box("esds", esds(content))))))))
+
+    def chance(self, rnd):
+        inside = (desc(4, decoder()) if rnd.random() < .6 else b"") + b"".join(any_descriptor(rnd) for _ in range(rnd.randrange(1, 4)))
+        content = es(flags=rnd.choice((0, 0, 0, 0, 0, 0, 0x80, 0x40, 0x20, 0xE0)), inside=inside,
+                     after=rnd.choice((desc(6, b"\2"), b"", any_descriptor(rnd))))
+        data = box("esds", esds(content, after=rnd.choice((b"", b"", b"", any_descriptor(rnd)))))
+        kind = rnd.choice(("esds", "mp4a"))
+        data = data if kind == "esds" else box("mp4a", sound(data))
+        return kind, data + rnd.choice((b"", b"", b"", b"", rnd.randbytes(rnd.randrange(20))))
 
 
 class Questions(Parts):

@@ -21,17 +21,13 @@ import rust_tables
 import tables
 
 
-class Tables(original.Domain):
-    """A case is an stbl."""
-    name, crate = "tables", "list_samples"
+def asked_of(question, there):
+    return f"{question} of a sample that is {'there' if there else 'not there'}"
 
-    def chance(self, rnd):
-        return (tables.uneven if rnd.randrange(5) == 0 else tables.sound)(rnd)
 
-    def made(self, count, seed):
-        """So many sound ones, and a quarter of that whose tables disagree on the count."""
-        rnd = random.Random(seed)
-        return [make(rnd) for make in [tables.sound] * count + [tables.uneven] * (count // 4)]
+class Samples(original.Domain):
+    """A case is an stbl that both can be asked about."""
+    crate = "list_samples"
 
     def parts(self, case):
         return [case]
@@ -61,23 +57,31 @@ class Tables(original.Domain):
             yield question if question in ("count", "total") else asked_of(question, there), [number]
 
 
-class Broken(Tables):
-    """Tables that disagree in other ways, or whose numbers were changed, and that both can be asked about."""
+class Tables(Samples):
+    """Sound ones, and some whose tables disagree on the count."""
+    name = "tables"
+
+    def chance(self, rnd):
+        return (tables.uneven if rnd.randrange(5) == 0 else tables.sound)(rnd)
+
+    def made(self, count, seed):
+        """So many sound ones, and a quarter of that whose tables disagree on the count."""
+        rnd = random.Random(seed)
+        return [make(rnd) for make in [tables.sound] * count + [tables.uneven] * (count // 4)]
+
+
+class Broken(Samples):
+    """Tables that disagree in other ways, or whose numbers were changed."""
     name = "broken tables"
 
     def chance(self, rnd):
         while True:
             data = tables.broken(rnd)
             try:
-                found = tables.tables(data)
+                if rust_tables.is_asked(tables.tables(data)):
+                    return data
             except boxes.Refused:
                 continue
-            if rust_tables.is_asked(found):
-                return data
-
-
-def asked_of(question, there):
-    return f"{question} of a sample that is {'there' if there else 'not there'}"
 
 
 # THE FIXED LIST

@@ -7,6 +7,7 @@ numbers in docs/DIFFERENCES.md of the differences. expected/oracle*.py have them
 """
 import collections
 import pathlib
+import random
 import subprocess
 import sys
 import tempfile
@@ -35,9 +36,26 @@ class Domain:
         """One input by chance."""
         raise NotImplementedError
 
+    def is_slow(self, case):
+        """Whether the original would count for seconds, or for ever."""
+        return False
+
     def made(self, count, seed):
-        """So many inputs, from the seed alone: the ordered ones first."""
-        raise NotImplementedError
+        """So many inputs from the seed alone, none twice: the ordered ones, or as many of them as that allows, then others by
+        chance. A few of those that the original is slow with are enough."""
+        rnd = random.Random(seed)
+        cases = self.ordered()
+        if len(cases) > count:
+            cases = rnd.sample(cases, count)
+        slow = 0
+        known = set(cases)
+        while len(cases) < count:
+            case = self.chance(rnd)
+            slow += self.is_slow(case)
+            if case not in known and not (self.is_slow(case) and slow > 6):
+                known.add(case)
+                cases.append(case)
+        return cases
 
     def parts(self, case):
         """What our program is lent for an input: a row of bytes."""
@@ -70,10 +88,6 @@ class Domain:
     def differences(self, case, ours, theirs):
         """For each question that has two answers its name and its numbers."""
         raise NotImplementedError
-
-    def is_slow(self, case):
-        """Whether the original would count for seconds, or for ever."""
-        return False
 
 
 # THE ANSWERS
@@ -204,7 +218,8 @@ def report(domain, found):
         print(f"  {question}: {asked[question]}, {asked[question] - unlike[question]} alike, by number {by_number}")
     for number, (_, line) in sorted(smallest.items()):
         print(f"  difference {number}: {sum(number in one.numbers for one in found)} {domain.name}, smallest {line}")
-    print(f"in all {len(found)} {domain.name}, {sum(not one.numbers for one in found)} alike; {strange} with a difference of no class")
+    alike = sum(not one.numbers for one in found)
+    print(f"in all {len(found)} {domain.name}, {alike} alike; {strange} with a difference of no class")
     return strange
 
 
