@@ -667,7 +667,7 @@ MAKES = {
     83: {"wrote itself"}, 84: TAKEN | {"refused", "child", "wrote"}, 85: {"taken 1", "taken 2", "wrote"}, 86: {"wrote"}, 87: {"wrote itself"},
     88: {"taken 1", "wrote"}, 89: {"taken 1"}, 90: {"taken 1"}, 91: DECODER | TAKEN | {"es_id", "refused", "wrote"},
     92: DECODER | TAKEN | {"refused", "wrote"}, 93: DECODER | {"wrote"}, 94: {"wrote"}, 95: {"wrote"}, 96: {"wrote"},
-    97: AUDIO | {"taken 1", "wrote"}, 98: {"wrote"}, 99: {"wrote"}, 102: {"layer"}, 122: DECODER | TAKEN | {"refused", "wrote"},
+    97: AUDIO | {"taken 1", "wrote"}, 98: {"wrote"}, 99: {"wrote"}, 102: {"layer"}, 122: TAKEN | {"refused"},
 }
 
 
