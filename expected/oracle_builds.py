@@ -65,7 +65,7 @@ class Builds(original.Domain):
     def commands(self, case):
         return [rust_builds.command(*case)]
 
-    def theirs(self, oracle, case, answers):
+    def theirs(self, oracle, answers):
         return answers[0]
 
     def asked(self, case, theirs):

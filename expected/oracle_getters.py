@@ -119,7 +119,7 @@ class Getters(original.Domain):
     def commands(self, case):
         return [rust_getters.command(case)]
 
-    def theirs(self, oracle, case, answers):
+    def theirs(self, oracle, answers):
         return answers_of(answers[0], names_of(oracle))
 
     def asked(self, case, theirs):

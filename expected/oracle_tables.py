@@ -41,7 +41,7 @@ class Samples(original.Domain):
     def commands(self, case):
         return [rust_tables.command(tables.tables(case))]
 
-    def theirs(self, oracle, case, answers):
+    def theirs(self, oracle, answers):
         """Without the texts of its errors."""
         return re.sub(r" (ERR|PANIC) [^|]*?(?= \||$)", r" \1", answers[0])
 

@@ -89,7 +89,7 @@ class Tracks(original.Domain):
     def commands(self, case):
         return [case[0]]
 
-    def theirs(self, oracle, case, answers):
+    def theirs(self, oracle, answers):
         return answers[0]
 
     def asked(self, case, theirs):

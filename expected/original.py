@@ -14,6 +14,7 @@ import tempfile
 
 import boxes
 
+
 class Judged:
     """An input, our lines for each part of it, and the original's answers; `asked` has the names of the questions, each as often
     as it was asked, and `differences` those that have two answers, each with its numbers, or a text where it has none.
@@ -77,7 +78,7 @@ class Domain:
         """What the original is asked."""
         raise NotImplementedError
 
-    def theirs(self, oracle, case, answers):
+    def theirs(self, oracle, answers):
         """The original's answers in the form in which they are compared and stored."""
         return answers
 
@@ -170,7 +171,7 @@ def judged(domain, cases, oracle, program=None):
     answers = iter(ask(oracle, [line for lines in asked for line in lines]))
     found = []
     for case, mine, lines, fault in zip(cases, ours, asked, faults):
-        theirs = domain.theirs(oracle, case, [next(answers) for _ in lines])
+        theirs = domain.theirs(oracle, [next(answers) for _ in lines])
         differences = [(domain.crate, fault)] if fault else []
         try:
             differences += domain.differences(case, mine, theirs)
