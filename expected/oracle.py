@@ -11,14 +11,12 @@ allows, then damaged ones, from SEED alone. It ends with 1 where a difference is
 stores some hundreds of these boxes with the original's answers in expected/oracle.txt.
 """
 import collections
-import os
+import functools
 import pathlib
-import random
-import subprocess
 import sys
-import tempfile
 
 import boxes
+import original
 import rust
 
 ROOT = pathlib.Path(__file__).resolve().parent.parent
@@ -303,156 +301,84 @@ def damaged(kind, sound, rnd):
     return bytes(data)
 
 
+@functools.cache
 def corpus(kind):
     pack = (DATA / "corpus.pack").read_bytes()
     return [data for data in boxes.entries(pack) if data[4:8] == kind.encode() and len(data) < 4096]
 
 
 def hangs(kind, data):
-    """Whether the original would count for seconds, or for ever: a few such boxes are enough."""
+    """Whether the original would count for seconds, or for ever."""
     if kind == "trun":
         head = rust.stated(data)[1]
         return not boxes.number(data, head + 1, 3) & 0xF00 and boxes.number(data, head + 4, 4) > 1 << 24
     return kind == "dinf" and (b"\0\0\0\0free" in data or b"\0\0\0\0url " in data or b"\0\0\0\0dref" in data)
 
 
-def made(count, seed):
-    """Kinds and boxes."""
-    rnd = random.Random(seed)
-    cases = [(kind, data) for kind in rust.KINDS for data in ordered(kind)]
-    cases = list(dict.fromkeys(cases))
-    if len(cases) > count:
-        cases = rnd.sample(cases, count)
-    slow = 0
-    known = set(cases)
-    sound = {kind: corpus(kind) for kind in rust.KINDS}
-    while len(cases) < count:
+class Boxes(original.Domain):
+    """A case is a kind and the bytes of a box."""
+    name, crate = "boxes", "copy_boxes"
+
+    def ordered(self):
+        return list(dict.fromkeys((kind, data) for kind in rust.KINDS for data in ordered(kind)))
+
+    def chance(self, rnd):
         kind = rnd.choice(rust.KINDS)
-        if sound[kind] and rnd.random() < .3:
-            base = rnd.choice(sound[kind])
+        sound = corpus(kind)
+        if sound and rnd.random() < .3:
+            base = rnd.choice(sound)
         else:
             content = by_chance(kind, rnd)
             base = large(kind, content) if rnd.random() < .05 else box(kind, content)
-        data = base if rnd.random() < .4 else damaged(kind, base, rnd)
-        slow += hangs(kind, data)
-        if (kind, data) not in known and not (hangs(kind, data) and slow > 6):
-            known.add((kind, data))
-            cases.append((kind, data))
-    return cases
+        return kind, base if rnd.random() < .4 else damaged(kind, base, rnd)
 
+    def is_slow(self, case):
+        return hangs(*case)
 
-# THE ANSWERS
+    def parts(self, case):
+        return [part for _, part in rust.parts(*case)]
 
-def ask(oracle, lines):
-    """A line for each: where the oracle hangs or dies it is started anew behind that line."""
-    answers = []
-    while len(answers) < len(lines):
-        run = subprocess.run(oracle.split(), input="\n".join(lines[len(answers):]) + "\n", capture_output=True, text=True)
-        got = run.stdout.splitlines()
-        if len(got) < len(lines) - len(answers) and not (got and got[-1] == "HANG"):
-            got.append("ABORT %d" % run.returncode)
-        answers += got
-    return [answer.split(" at /rustc")[0] for answer in answers]
+    def second(self, part):
+        return [boxes.line(part)]
 
+    def run(self, program, parts):
+        return ([line] for line in original.over_packs(program, parts))
 
-def rust_answers(oracle, cases):
-    lines = [f"{command} {kind} {data.hex()}" for kind, data in cases for command in ("read", "copy")]
-    answers = ask(oracle, lines)
-    return list(zip(answers[::2], answers[1::2]))
+    def commands(self, case):
+        kind, data = case
+        return [f"{command} {kind} {data.hex()}" for command in ("read", "copy")]
 
+    def asked(self, case, theirs):
+        return [f"{case[0]} {'read' if theirs[0].startswith('OK') else 'not read'} by the original"]
 
-def packs(data):
-    """Packs of these boxes, none above a quarter of what the program reads."""
-    pack, size = [], 0
-    for one in data:
-        if size + 4 + len(one) > boxes.MOST_BYTES // 4:
-            yield pack
-            pack, size = [], 0
-        pack.append(one)
-        size += 4 + len(one)
-    yield pack
-
-
-def our_answers(program, cases):
-    """For each box its answer: from the lines of the program, each the same as that of expected/boxes.py."""
-    found = [list(rust.parts(kind, data)) for kind, data in cases]
-    told = iter(lines_of(program, [part for parts in found for _, part in parts]))
-    return [rust.answer(kind, parts, [next(told) for _ in parts]) for (kind, _), parts in zip(cases, found)]
-
-
-def lines_of(program, data):
-    lines = [boxes.line(one) for one in data]
-    return lines if program is None else program_lines(program, data, lines)
-
-
-def program_lines(program, data, lines):
-    """The lines of a program over packs, each of which must be that of the second implementation."""
-    told = []
-    with tempfile.TemporaryDirectory() as folder:
-        for pack in packs(data):
-            name = os.path.join(folder, "pack")
-            pathlib.Path(name).write_bytes(boxes.pack_of(pack))
-            run = subprocess.run([*program.split(), name], capture_output=True, text=True, check=True)
-            told += run.stdout.splitlines()[1:]
-    assert len(told) == len(lines), (len(told), len(lines))
-    wrong = [(one.hex(), line, other) for one, line, other in zip(data, lines, told) if line != other]
-    for one in wrong[:10]:
-        print("the program and the second implementation differ:", *one, sep="\n  ")
-    if wrong:
-        sys.exit(1)
-    return told
-
-
-def compared(cases, ours, answers):
-    """For each box its classes; prints how often each was met and every difference of no class."""
-    found = [rust.classes(kind, data, mine, rust.Rust(*answer)) for (kind, data), mine, answer in zip(cases, ours, answers)]
-    count = collections.Counter(kind for kind, _ in cases)
-    alike = collections.Counter(kind for (kind, _), numbers in zip(cases, found) if not numbers)
-    both = collections.Counter(kind for (kind, _), answer, numbers in zip(cases, answers, found)
-                               if not numbers and answer[0].startswith("OK"))
-    print("kind: boxes, alike (of these read by both)")
-    for kind in rust.KINDS:
-        print(f"  {kind}: {count[kind]}, {alike[kind]} ({both[kind]})")
-    print(f"in all {len(cases)} boxes, {sum(alike.values())} alike ({sum(both.values())})")
-    met = collections.Counter(number for numbers in found for number in set(numbers) if isinstance(number, int))
-    least = {}
-    for (kind, data), numbers in zip(cases, found):
-        for number in numbers:
-            if number not in least or len(data) < len(least[number]):
-                least[number] = data
-    for number in sorted(met):
-        print(f"  difference {number}: {met[number]} boxes, smallest {least[number].hex()}")
-    strange = 0
-    for (kind, data), answer, numbers in zip(cases, answers, found):
-        for number in numbers:
-            if not isinstance(number, int):
-                strange += 1
-                if strange <= 40:
-                    print(f"NEW: {kind} {data.hex()}\n  {number}\n  ours: {boxes.line(data)}\n  read: {answer[0]}\n  copy: {answer[1]}")
-    print(f"{strange} differences of no class")
-    return found, strange
+    def differences(self, case, ours, theirs):
+        kind, data = case
+        mine = rust.answer(kind, list(rust.parts(kind, data)), [line for line, in ours])
+        numbers = rust.classes(kind, data, mine, rust.Rust(*theirs))
+        return [(question, numbers) for question in self.asked(case, theirs) if numbers]
 
 
 # THE FIXED LIST
 
-def chosen(cases, answers, found):
+def chosen(found):
     """Some hundreds of them: of each class and kind the smallest, of each kind some that are alike, and every set of
     flags."""
     keep = set()
     by_class, by_kind = collections.defaultdict(list), collections.defaultdict(list)
-    for i, ((kind, data), (read, _), numbers) in enumerate(zip(cases, answers, found)):
-        for number in numbers:
+    for i, one in enumerate(found):
+        kind = one.case[0]
+        for number in one.numbers:
             by_class[kind, number].append(i)
-        if not numbers:
-            by_kind[kind, read.startswith("OK")].append(i)
+        if not one.numbers:
+            by_kind[kind, one.theirs[0].startswith("OK")].append(i)
     for place in by_class.values():
-        keep.update(sorted(place, key=lambda i: len(cases[i][1]))[:4])
+        keep.update(sorted(place, key=lambda i: len(found[i].case[1]))[:4])
     for (_, taken), place in by_kind.items():
         keep.update(place[::max(len(place) // (16 if taken else 8), 1)][:16 if taken else 8])
     flags = {box("tfhd", tfhd(0, flags, 1, 2, 3, 4, 5, 6)) for flags in sums(TFHD_FLAGS)}
     flags |= {box("trun", trun(i % 2, flags, 100, 0x2000000, [(1, 2, 3, 4), (5, 6, 7, -8)])) for i, flags in enumerate(sums(TRUN_FLAGS))}
-    keep.update(i for i, (_, data) in enumerate(cases) if data in flags)
-    return [i for i in sorted(keep) if len(cases[i][1]) < 512]
+    keep.update(i for i, one in enumerate(found) if one.case[1] in flags)
+    return [found[i] for i in sorted(keep) if len(found[i].case[1]) < 512]
 
 
 HEAD = """# Boxes and what the original, the Rust crate mp4 0.14.0, answers to them: its record and position (read), the bytes
@@ -463,30 +389,15 @@ HEAD = """# Boxes and what the original, the Rust crate mp4 0.14.0, answers to t
 """
 
 
-def store(oracle, count, seed):
-    cases = made(count, seed)
-    answers = rust_answers(oracle, cases)
-    found, strange = compared(cases, our_answers(None, cases), answers)
-    if strange:
-        sys.exit(1)
-    keep = chosen(cases, answers, found)
+def store(found, count, seed):
+    keep = chosen(found)
     with open(rust.STORED, "w") as file:
         file.write(HEAD % (count, seed, count))
-        for i in keep:
-            (kind, data), (read, copy), numbers = cases[i], answers[i], found[i]
-            file.write(f"box {kind} {data.hex()}\nread {read}\ncopy {copy}\ndiffers {' '.join(map(str, numbers))}\n")
-    print(f"{len(keep)} boxes stored")
-
-
-def main():
-    if sys.argv[1] == "--store":
-        return store(sys.argv[2], int(sys.argv[3]), int(sys.argv[4]))
-    oracle, count, seed = sys.argv[1], int(sys.argv[2]), int(sys.argv[3])
-    program = sys.argv[4] if len(sys.argv) > 4 else None
-    cases = made(count, seed)
-    answers = rust_answers(oracle, cases)
-    sys.exit(1 if compared(cases, our_answers(program, cases), answers)[1] else 0)
+        for one in keep:
+            (kind, data), (read, copy) = one.case, one.theirs
+            file.write(f"box {kind} {data.hex()}\nread {read}\ncopy {copy}\ndiffers {' '.join(map(str, one.numbers))}\n")
+    return len(keep)
 
 
 if __name__ == "__main__":
-    main()
+    sys.exit(original.main(__doc__, [Boxes()], store))

@@ -11,11 +11,10 @@ stores some hundred of these lists with the original's answers in expected/build
 """
 import collections
 import random
-import subprocess
 import sys
 
 import builds
-import oracle
+import original
 import rust_builds
 
 MOST_BYTES = 1 << 20  # of the standard input that the program reads
@@ -26,78 +25,59 @@ def lies_behind(samples):
     return all(sum(a[:2]) == b[0] for a, b in zip(samples, samples[1:]))
 
 
-def made(count, seed):
-    rnd = random.Random(seed)
-    found = [(timescale, samples) for timescale, samples in builds.FIXED
-             if lies_behind(samples) and all(sum(sample[:2]) < MOST_PLACE for sample in samples)]
-    while len(found) < count:
-        timescale, rows = builds.some_rows(rnd, rnd.choice((4, 40, 1000)))
-        found.append((timescale, builds.behind(rnd.choice((0, 48, rnd.randrange(MOST_PLACE))) if rows else 0, *rows)))
-    return [(rnd.choice(rust_builds.CONFIGURATIONS), *one) for one in found[:count]]
+def fixed():
+    return [(timescale, samples) for timescale, samples in builds.FIXED
+            if lies_behind(samples) and all(sum(sample[:2]) < MOST_PLACE for sample in samples)]
 
 
-def program_lists(program, cases):
-    """The lines of the program for each list."""
-    told, inputs = [], [b""]
-    for _, timescale, samples in cases:
-        data = builds.list_bytes(timescale, samples)
-        if len(inputs[-1]) + len(data) > MOST_BYTES:
-            inputs.append(b"")
-        inputs[-1] += data
-    for data in inputs:
-        run = subprocess.run(program.split(), input=data, capture_output=True, check=True)
-        told += rust_builds.lists_of(run.stdout.decode().splitlines())
-    return told
+def some_list(rnd):
+    timescale, rows = builds.some_rows(rnd, rnd.choice((4, 40, 1000)))
+    return timescale, builds.behind(rnd.choice((0, 48, rnd.randrange(MOST_PLACE))) if rows else 0, *rows)
 
 
-def our_lists(program, cases):
-    mine = [builds.lines(timescale, samples) for _, timescale, samples in cases]
-    wrong = [case for case, told in zip(cases, mine) if not builds.comes_back(*case[1:], told)]
-    for case in wrong[:10]:
-        print("other samples come back:", *case)
-    if program is not None:
-        told = program_lists(program, cases)
-        assert len(told) == len(mine), (len(told), len(mine))
-        differ = [(case, a, b) for case, a, b in zip(cases, mine, told) if a != b]
-        for one in differ[:10]:
-            print("expected/builds.py and the program differ:", *one, sep="\n  ")
-        wrong += differ
-    if wrong:
-        sys.exit(1)
-    return mine
+class Builds(original.Domain):
+    """A case is a configuration, a timescale and samples."""
+    name, crate = "lists", "build_tables"
 
+    def ordered(self):
+        return [(configuration, *one) for one in fixed() for configuration in rust_builds.CONFIGURATIONS]
 
-def compared(cases, ours, answers):
-    """For each list its classes; prints how often each was met, and every difference of no class."""
-    strange = wrong = 0
-    found, met, unlike, smallest = [], collections.Counter(), collections.Counter(), {}
-    for (configuration, timescale, samples), told, answer in zip(cases, ours, answers):
-        theirs, model = rust_builds.original(answer), rust_builds.model(timescale, samples)
-        if theirs != model:
-            wrong += 1
-            if wrong <= 10:
-                print(f"THE MODEL IS WRONG: {timescale} {samples}\n  {model}\n  {theirs}")
-        numbers = rust_builds.classes(timescale, samples, told, answer)
-        found.append(numbers)
-        for table, those in rust_builds.differences(timescale, samples, told, answer):
-            unlike[table] += 1
-            met.update((table, number) for number in those if isinstance(number, int))
-        for number in numbers:
-            if not isinstance(number, int):
-                strange += 1
-                if strange <= 20:
-                    print(f"NEW: {rust_builds.command(configuration, timescale, samples)}\n  {number}")
-            elif (rank := (len(samples), len(numbers))) < smallest.get(number, ((builds.MOST + 1, 0),))[0]:
-                smallest[number] = rank, rust_builds.command(configuration, timescale, samples)
-    for table in rust_builds.TABLES:
-        by_class = {number: n for (one, number), n in sorted(met.items()) if one == table}
-        print(f"  {table}: {len(cases) - unlike[table]} alike, by class {by_class}")
-    for number, (_, line) in sorted(smallest.items()):
-        print(f"  difference {number}: {sum(number in numbers for numbers in found)} lists, smallest {line}")
-    count = sum(len(samples) for _, _, samples in cases)
-    print(f"in all {len(cases)} lists of {count} samples, {sum(not numbers for numbers in found)} alike in every table; "
-          f"{strange} differences of no class, {wrong} answers that the model has not")
-    return found, strange + wrong
+    def chance(self, rnd):
+        return (rnd.choice(rust_builds.CONFIGURATIONS), *some_list(rnd))
+
+    def made(self, count, seed):
+        rnd = random.Random(seed)
+        found = fixed()
+        while len(found) < count:
+            found.append(some_list(rnd))
+        return [(rnd.choice(rust_builds.CONFIGURATIONS), *one) for one in found[:count]]
+
+    def parts(self, case):
+        return [builds.list_bytes(*case[1:])]
+
+    def second(self, part):
+        (timescale, samples), = builds.lists(part)
+        return builds.lines(timescale, samples)
+
+    def run(self, program, parts):
+        return original.up_to_empty(original.over_input(program, parts, MOST_BYTES))
+
+    def commands(self, case):
+        return [rust_builds.command(*case)]
+
+    def theirs(self, oracle, answers):
+        return answers[0]
+
+    def asked(self, case, theirs):
+        return rust_builds.TABLES
+
+    def differences(self, case, ours, theirs):
+        _, timescale, samples = case
+        yield from rust_builds.differences(timescale, samples, ours[0], theirs)
+        if rust_builds.original(theirs) != (model := rust_builds.model(timescale, samples)):
+            yield "model", [f"the model has another answer: {model}"]
+        if not builds.comes_back(timescale, samples, ours[0]):
+            yield "samples", ["other samples come back"]
 
 
 # THE FIXED LIST
@@ -128,38 +108,20 @@ def features(timescale, samples, numbers, told):
             yield "closes", (lasts > timescale) - (lasts < timescale), min(len(chunk), 3)
 
 
-def store(name, count, seed):
-    cases = made(count, seed)
-    ours = our_lists(None, cases)
-    answers = oracle.ask(name, [rust_builds.command(*case) for case in cases])
-    found, strange = compared(cases, ours, answers)
-    if strange:
-        return 1
+def store(found, count, seed):
     met, kept = collections.Counter(), 0
     with open(rust_builds.STORED, "w") as file:
         file.write(HEAD % (count, seed))
-        for case, told, answer, numbers in sorted(zip(cases, ours, answers, found), key=lambda one: len(one[0][2])):
-            shown = set(features(*case[1:], numbers, told))
+        for one in sorted(found, key=lambda one: len(one.case[2])):
+            numbers = sorted(one.numbers)
+            shown = set(features(*one.case[1:], numbers, one.ours[0]))
             if any(met[feature] < 6 for feature in shown):
                 met.update(shown)
                 kept += 1
                 differs = " ".join(map(str, ["differs", *numbers]))
-                file.write(f"{rust_builds.command(*case)}\nanswer {answer}\n{differs}\n")
-    print(f"{kept} lists stored")
-    return 0
-
-
-def main():
-    if len(sys.argv) < 4:
-        print(__doc__)
-        return 2
-    if sys.argv[1] == "--store":
-        return store(sys.argv[2], int(sys.argv[3]), int(sys.argv[4]))
-    cases = made(int(sys.argv[2]), int(sys.argv[3]))
-    ours = our_lists(sys.argv[4] if len(sys.argv) > 4 else None, cases)
-    answers = oracle.ask(sys.argv[1], [rust_builds.command(*case) for case in cases])
-    return 1 if compared(cases, ours, answers)[1] else 0
+                file.write(f"{rust_builds.command(*one.case)}\nanswer {one.theirs}\n{differs}\n")
+    return kept
 
 
 if __name__ == "__main__":
-    sys.exit(main())
+    sys.exit(original.main(__doc__, [Builds()], store))

@@ -11,16 +11,17 @@ class: else it ends with 1. PROGRAM is the built crates/copy_entries with the wo
 stores some hundreds of these boxes with the original's answers in expected/entries.txt.
 """
 import collections
+import functools
 import pathlib
 import random
 import sys
 
-import boxes
 import collect
 import entries
 import oracle
+import original
 import rust_entries
-from oracle import ask, u
+from oracle import u
 
 ROOT = pathlib.Path(__file__).resolve().parent.parent
 FILES = ROOT / "crates/framewitness/data"
@@ -313,6 +314,7 @@ def ordered(kind):
             yield from lengths(kind, data[8:])
 
 
+@functools.cache
 def corpus(kind):
     """The boxes of this kind in the files, each once."""
     found = {}
@@ -338,25 +340,26 @@ def every(data):
     return FOUND[data]
 
 
-def made(count, seed):
-    rnd = random.Random(seed)
-    cases = list(dict.fromkeys((kind, data) for kind in rust_entries.KINDS for data in ordered(kind)))
-    if len(cases) > count:
-        cases = rnd.sample(cases, count)
-    known = set(cases)
-    real = {kind: corpus(kind) for kind in rust_entries.KINDS}
-    while len(cases) < count:
-        kind = rnd.choice(rust_entries.KINDS)
-        if real[kind] and rnd.random() < .3:
-            base = rnd.choice(real[kind])
-        else:
-            content = by_chance(kind, rnd)
-            base = large(kind, content) if rnd.random() < .05 else box(kind, content)
-        data = base if rnd.random() < .4 else oracle.damaged(kind, base, rnd)
-        if (kind, data) not in known:
-            known.add((kind, data))
-            cases.append((kind, data))
-    return cases
+def some_configuration(rnd):
+    return b"asc ", rnd.randbytes(rnd.randrange(8))
+
+
+def some_length(rnd, tag):
+    return b"dput", bytes((tag,)) + u(4, rnd.randrange(1 << rnd.randrange(1, 33)))
+
+
+def some_descriptor(rnd):
+    content = rnd.randbytes(rnd.randrange(4, 200))
+    return b"desc", desc(rnd.randrange(256), content, rnd.choice((None, 2, 3, 4)), rnd.choice((None, len(content) + 1, len(content) - 1)))
+
+
+def some_sound(rnd):
+    return b"nmp4", rnd.randbytes(4) + bytes((rnd.randrange(1, 48), rnd.randrange(14), rnd.randrange(1, 8)))
+
+
+def some_picture(rnd):
+    sps = rnd.randbytes(rnd.randrange(4, 60))
+    return b"navc", rnd.randbytes(4) + u(2, len(sps)) + sps + rnd.randbytes(rnd.randrange(60))
 
 
 def questions(count, seed):
@@ -367,15 +370,13 @@ def questions(count, seed):
     found += [(b"prof", bytes((66, n))) for n in range(256)]
     found += [(b"kind", letters) for letters in (b"vide", b"soun", b"sbtl", b"VIDE", b"hint", b"text", b"subt", b"meta", b"vidf")]
     found += [(b"asc ", data) for data in configs()]
-    found += [(b"asc ", rnd.randbytes(rnd.randrange(8))) for _ in range(count)]
+    found += [some_configuration(rnd) for _ in range(count)]
     for length in (0, 1, 127, 128, 129, 16383, 16384, 2097151, 2097152, (1 << 28) - 1, 1 << 28, 0xFFFFFFFF):
         found.append((b"dput", bytes((rnd.randrange(256),)) + u(4, length)))
-    found += [(b"dput", bytes((n % 256,)) + u(4, rnd.randrange(1 << rnd.randrange(1, 33)))) for n in range(count // 4)]
+    found += [some_length(rnd, n % 256) for n in range(count // 4)]
     for head in (b"", b"\3", b"\3\x80", b"\3\x80\x80\x80\x80", b"\3\xff\xff\xff\x7f", b"\3\0", b"\3\x81\0", b"\3\x80\x80\x80\1x", b"\3\2x"):
         found.append((b"desc", head))
-    for _ in range(count // 4):
-        content = rnd.randbytes(rnd.randrange(4, 200))
-        found.append((b"desc", desc(rnd.randrange(256), content, rnd.choice((None, 2, 3, 4)), rnd.choice((None, len(content) + 1, len(content) - 1)))))
+    found += [some_descriptor(rnd) for _ in range(count // 4)]
     for kind in (*range(31), *range(32, 64)):
         for index in (0, 3, 12, 15):
             for channels in (1, 2, 7):
@@ -390,8 +391,7 @@ def new(count, rnd):
         yield b"nmp4", u(4, 128000) + bytes(codes)
     for bitrate in LIMITS[4]:
         yield b"nmp4", u(4, bitrate) + bytes((2, 4, 1))
-    for _ in range(count // 10):
-        yield b"nmp4", rnd.randbytes(4) + bytes((rnd.randrange(1, 48), rnd.randrange(14), rnd.randrange(1, 8)))
+    yield from (some_sound(rnd) for _ in range(count // 10))
     for width in LIMITS[2]:
         for height in LIMITS[2]:
             yield b"nvp9", u(2, width) + u(2, height)
@@ -399,85 +399,143 @@ def new(count, rnd):
     for first in range(10):
         for second in range(3):
             yield b"navc", u(2, 320) + u(2, 240) + u(2, first) + rnd.randbytes(first) + rnd.randbytes(second)
-    for _ in range(count // 10):
-        sps = rnd.randbytes(rnd.randrange(4, 60))
-        yield b"navc", rnd.randbytes(4) + u(2, len(sps)) + sps + rnd.randbytes(rnd.randrange(60))
+    yield from (some_picture(rnd) for _ in range(count // 10))
     yield b"ntx3", b""
 
 
-# THE ANSWERS
+# THE COMPARISONS
 
-def compared(cases, lines, answers):
-    """For each box its classes; prints how often each was met and every difference of no class."""
-    lines = iter(lines)
-    strange, found, wrong = 0, [], 0
-    for (kind, data), read, copy in zip(cases, answers[::2], answers[1::2]):
-        own = [next(lines) for _ in rust_entries.parts(kind, data)]
-        answer, model = rust_entries.original(read, copy), rust_entries.boxed(data, kind)[:3]
-        if answer != model:
-            wrong += 1
-            print(f"THE MODEL IS WRONG: {kind} {data.hex()}\n  {model}\n  {answer}")
-        found.append(rust_entries.classes(kind, data, rust_entries.Ours(kind, data, own), answer))
-        for text in found[-1]:
-            if not isinstance(text, int):
-                strange += 1
-                if strange <= 40:
-                    print(f"NEW: {kind} {data.hex()}\n  {text}\n  ours: {own}\n  read: {read}\n  copy: {copy}")
-    count = collections.Counter(kind for kind, _ in cases)
-    alike = collections.Counter(kind for (kind, _), numbers in zip(cases, found) if not numbers)
-    both = collections.Counter(kind for (kind, _), read, numbers in zip(cases, answers[::2], found)
-                               if not numbers and read.startswith("OK"))
-    print("kind: boxes, alike (of these read by both)")
-    for kind in rust_entries.KINDS:
-        print(f"  {kind}: {count[kind]}, {alike[kind]} ({both[kind]})")
-    print(f"in all {len(cases)} boxes, {sum(alike.values())} alike ({sum(both.values())})")
-    told(cases, found)
-    print(f"{strange} differences of no class, {wrong} answers that the model has not")
-    return found, strange + wrong
+class Parts(original.Domain):
+    """What copy_entries is asked, a line for each part."""
+    crate = "copy_entries"
+
+    def is_known(self, part):
+        return rust_entries.is_known(part)
+
+    def second(self, part):
+        return [entries.line(part)]
+
+    def run(self, program, parts):
+        return ([line] for line in original.over_packs(program, parts))
 
 
-def told(cases, found):
-    met = collections.Counter(number for numbers in found for number in numbers)
-    for number in sorted(met, key=str):
-        least = min((data for (_, data), numbers in zip(cases, found) if number in numbers), key=len)
-        alone = [data for (_, data), numbers in zip(cases, found) if numbers == [number]]
-        print(f"  difference {number}: {met[number]}, smallest {(min(alone, key=len) if alone else least).hex()}")
+class Entries(Parts):
+    """A case is a kind and the bytes of a box."""
+    name = "entries"
+
+    def ordered(self):
+        return list(dict.fromkeys((kind, data) for kind in rust_entries.KINDS for data in ordered(kind)))
+
+    def chance(self, rnd):
+        kind = rnd.choice(rust_entries.KINDS)
+        real = corpus(kind)
+        if real and rnd.random() < .3:
+            base = rnd.choice(real)
+        else:
+            content = by_chance(kind, rnd)
+            base = large(kind, content) if rnd.random() < .05 else box(kind, content)
+        return kind, base if rnd.random() < .4 else oracle.damaged(kind, base, rnd)
+
+    def parts(self, case):
+        return [part for _, part in rust_entries.parts(*case)]
+
+    def commands(self, case):
+        kind, data = case
+        return [f"{command} {kind} {data.hex()}" for command in ("read", "copy")]
+
+    def asked(self, case, theirs):
+        return [f"{case[0]} {'read' if theirs[0].startswith('OK') else 'not read'} by the original"]
+
+    def differences(self, case, ours, theirs):
+        kind, data = case
+        answer, model = rust_entries.original(*theirs), rust_entries.boxed(data, kind)[:3]
+        mine = rust_entries.Ours(kind, data, [line for line, in ours])
+        numbers = rust_entries.classes(kind, data, mine, answer)
+        numbers += [] if answer == model else [f"the model has another answer: {model}"]
+        return [(question, numbers) for question in self.asked(case, theirs) if numbers]
 
 
-def compared_questions(asked, lines, answers):
-    found = [rust_entries.question_classes(letters, data, line, answer)
-             for (letters, data), line, answer in zip(asked, lines, answers)]
-    strange = 0
-    for (letters, data), line, answer, numbers in zip(asked, lines, answers, found):
-        if any(not isinstance(number, int) for number in numbers):
-            strange += 1
-            print(f"NEW: {letters} {data.hex()}\n  {numbers}\n  ours: {line}\n  the original: {answer}")
-    count = collections.Counter(letters for letters, _ in asked)
-    alike = collections.Counter(letters for (letters, _), numbers in zip(asked, found) if not numbers)
-    for letters in count:
-        print(f"  {letters.decode()}: {count[letters]}, {alike[letters]} alike")
-    told(asked, found)
-    return found, strange
+def seconds():
+    """Streams with a second DecoderConfig of every length, behind the first or before it, and a second DecoderSpecificInfo."""
+    layer, one = desc(6, b"\2"), desc(4, decoder())
+    other = decoder(config(5, 6, 1), 0x66, 0x11, 9, 7, 8)
+    for length in range(len(other) + 1):
+        two = desc(4, other[:length])
+        for inside in (one + two, two + one):
+            yield from (es(inside=inside), es(inside=inside, after=b""))
+        yield from (es(after=layer + two), es(after=two + layer))
+    for info in (config(5, 6, 1), config(42, 4, 2), config(2, 15, 2)):
+        for length in range(len(info) + 1):
+            for first in (config(), None, b"", b"\x12"):
+                inside = desc(4, decoder(first, after=desc(5, info[:length])))
+                yield from (es(inside=inside), es(inside=inside, after=b""))
 
 
-def lines_of(program, data):
-    """The lines of expected/entries.py; with a program, its own, which must be the same."""
-    lines = [entries.line(one) for one in data]
-    known = [(one, line) for one, line in zip(data, lines) if rust_entries.is_known(one)]
-    if program is not None:
-        oracle.program_lines(program, *map(list, zip(*known)))
-    return lines
+def any_descriptor(rnd, depth=0):
+    """Of any kind, with others in it; now and then its length is another."""
+    tag = rnd.choice((3, 4, 4, 4, 5, 5, 6, 0x80, rnd.randrange(256)))
+
+    def perhaps(part):
+        return any_descriptor(rnd, depth + 1) if depth < 3 and rnd.random() < part else b""
+
+    content = rnd.randbytes(rnd.randrange(rnd.choice((2, 6, 18))))
+    if tag == 4 and rnd.random() < .7:
+        content = decoder(rnd.choice((config(), None, rnd.randbytes(rnd.randrange(5)))), rnd.randrange(256), rnd.randrange(256),
+                          before=perhaps(.3), after=perhaps(.4))
+    elif tag == 5:
+        content = rnd.choice((config(5, 6, 1), config(42, 4, 2), rnd.randbytes(rnd.randrange(6))))
+    elif tag == 3 and rnd.random() < .5:
+        content = es(rnd.randrange(1 << 16), inside=perhaps(1))
+    length = None if rnd.random() < .85 else max(len(content) + rnd.randrange(-3, 4), 0)
+    return desc(tag, content, rnd.choice((None, None, None, 2, 4)), length)
 
 
-def run(name, count, seed, program=None):
-    cases, asked = made(count, seed), questions(count // 10, seed)
-    answers = ask(name, [f"{command} {kind} {data.hex()}" for kind, data in cases for command in ("read", "copy")])
-    lines = lines_of(program, [part for kind, data in cases for _, part in rust_entries.parts(kind, data)])
-    found, strange = compared(cases, lines, answers)
-    said = ask(name, [rust_entries.command(letters, data) for letters, data in asked])
-    lines = lines_of(program, [bytes(4) + letters + data for letters, data in asked])
-    answered, more = compared_questions(asked, lines, said)
-    return cases, answers, found, asked, said, answered, strange + more
+class Streams(Entries):
+    """Entries and esds boxes with rows of descriptors of any kind."""
+    name = "streams"
+
+    def ordered(self):
+        return list(dict.fromkeys((kind, made) for content in seconds() for kind, made in (
+            ("esds", box("esds", esds(content))), ("mp4a", box("mp4a", sound(box("esds", esds(content))))))))
+
+    def chance(self, rnd):
+        inside = (desc(4, decoder()) if rnd.random() < .6 else b"") + b"".join(any_descriptor(rnd) for _ in range(rnd.randrange(1, 4)))
+        content = es(flags=rnd.choice((0, 0, 0, 0, 0, 0, 0x80, 0x40, 0x20, 0xE0)), inside=inside,
+                     after=rnd.choice((desc(6, b"\2"), b"", any_descriptor(rnd))))
+        data = box("esds", esds(content, after=rnd.choice((b"", b"", b"", any_descriptor(rnd)))))
+        kind = rnd.choice(("esds", "mp4a"))
+        data = data if kind == "esds" else box("mp4a", sound(data))
+        return kind, data + rnd.choice((b"", b"", b"", b"", rnd.randbytes(rnd.randrange(20))))
+
+
+class Questions(Parts):
+    """A case is the letters of a question and its bytes."""
+    name = "questions"
+
+    def ordered(self):
+        return questions(0, 0)
+
+    def chance(self, rnd):
+        way = rnd.randrange(8)
+        if way < 4:
+            return some_configuration(rnd)
+        return (some_descriptor, some_sound, some_picture)[way - 4](rnd) if way < 7 else some_length(rnd, rnd.randrange(256))
+
+    def made(self, count, seed):
+        return questions(count // 10, seed)
+
+    def parts(self, case):
+        return [rust_entries.asking(*case)]
+
+    def commands(self, case):
+        return [rust_entries.command(*case)]
+
+    def asked(self, case, theirs):
+        return [case[0].decode()]
+
+    def differences(self, case, ours, theirs):
+        numbers = rust_entries.question_classes(*case, ours[0][0], theirs[0])
+        return [(question, numbers) for question in self.asked(case, theirs) if numbers]
 
 
 # THE FIXED LIST
@@ -490,37 +548,29 @@ HEAD = """# Sample entries and questions, and what the original, the Rust crate 
 """
 
 
-def store(name, count, seed):
-    cases, answers, found, asked, said, answered, strange = run(name, count, seed)
-    if strange:
-        sys.exit(1)
+def store(found, asked, count, seed):
     keep = set()
     groups = collections.defaultdict(list)
-    for i, ((kind, _), numbers) in enumerate(zip(cases, found)):
-        groups[kind, tuple(numbers[:2]), answers[2 * i].startswith("OK")].append(i)
+    for i, one in enumerate(found):
+        groups[one.case[0], tuple(one.numbers[:2]), one.theirs[0].startswith("OK")].append(i)
     for (_, numbers, _), place in groups.items():
-        keep.update(sorted(place, key=lambda i: len(cases[i][1]))[:2] if numbers else place[::max(len(place) // 10, 1)][:10])
+        keep.update(sorted(place, key=lambda i: len(found[i].case[1]))[:2] if numbers else place[::max(len(place) // 10, 1)][:10])
     real = {data for kind in rust_entries.KINDS for data in corpus(kind)}
-    keep = [i for i in sorted(keep | {i for i, (_, data) in enumerate(cases) if data in real}) if len(cases[i][1]) < 1024]
+    keep |= {i for i, one in enumerate(found) if one.case[1] in real}
+    keep = [found[i] for i in sorted(keep) if len(found[i].case[1]) < 1024]
     few = collections.Counter()
     with open(rust_entries.STORED, "w") as file:
         file.write(HEAD % (count, seed, count, len(asked)))
-        for i in keep:
-            kind, data = cases[i]
-            file.write(f"box {kind} {data.hex()}\nread {answers[2 * i]}\ncopy {answers[2 * i + 1]}\ndiffers {' '.join(map(str, found[i]))}\n")
-        for (letters, data), answer, numbers in zip(asked, said, answered):
-            few[letters, tuple(numbers)] += 1
-            if few[letters, tuple(numbers)] <= (300 if letters in (b"aot ", b"freq", b"chan") else 20):
-                file.write(f"ask {letters.decode().strip()} {data.hex()}\nread {answer}\ncopy -\ndiffers {' '.join(map(str, numbers))}\n")
-    print(f"{len(keep)} boxes stored")
-
-
-def main():
-    if sys.argv[1] == "--store":
-        return store(sys.argv[2], int(sys.argv[3]), int(sys.argv[4]))
-    strange = run(sys.argv[1], int(sys.argv[2]), int(sys.argv[3]), *sys.argv[4:5])[-1]
-    sys.exit(1 if strange else 0)
+        for one in keep:
+            (kind, data), (read, copy) = one.case, one.theirs
+            file.write(f"box {kind} {data.hex()}\nread {read}\ncopy {copy}\ndiffers {' '.join(map(str, one.numbers))}\n")
+        for one in asked:
+            (letters, data), differs = one.case, " ".join(map(str, one.numbers))
+            few[letters, differs] += 1
+            if few[letters, differs] <= (300 if letters in (b"aot ", b"freq", b"chan") else 20):
+                file.write(f"ask {letters.decode().strip()} {data.hex()}\nread {one.theirs[0]}\ncopy -\ndiffers {differs}\n")
+    return len(keep)
 
 
 if __name__ == "__main__":
-    main()
+    sys.exit(original.main(__doc__, [Entries(), Questions()], store))

@@ -10,21 +10,16 @@ crates/describe_tracks with the words that start it, in one argument; it must pr
 stores some of these with the original's answers in expected/getters.txt.
 """
 import collections
+import functools
 import random
-import subprocess
 import sys
-import tempfile
 
-import boxes
 import describe
-import oracle
 import oracle_entries
 import oracle_tracks
+import original
 import rust_entries
 import rust_getters
-from rust_getters import command, made_trak
-
-PACK = 1000  # traks in a pack of the program
 
 
 # THE TRACKS
@@ -42,25 +37,21 @@ def damaged(rnd, content):
     return content + rnd.randbytes(rnd.randint(1, 9))
 
 
-def made(count, seed):
-    rnd = random.Random(seed)
-    found = []
-    for _ in range(count):
-        kind = rnd.choice(("avc1",) * 5 + ("mp4a",) * 8 + (None,))
-        entry = b""
-        if kind:
-            content = oracle_entries.by_chance(kind, rnd)
-            entry = oracle_entries.box(kind, damaged(rnd, content) if rnd.random() < .2 else content)
-        common = rnd.choice((0, 0, 1, 0xFFFFFFFF, rnd.randrange(1 << 32)))
-        sizes = [rnd.choice((0, 1, 1000, 0xFFFFFFFF, rnd.randrange(1 << 32))) for _ in range(rnd.randrange(9))]
-        number = rnd.choice((0, 1, 2, 0xFFFFFFFF, rnd.randrange(1 << 32))) if common else len(sizes)
-        found.append(rust_getters.Track(kind, entry, *oracle_tracks.some_time(rnd), common, number, [] if common else sizes))
-    return found
+def some_track(rnd):
+    kind = rnd.choice(("avc1",) * 5 + ("mp4a",) * 8 + (None,))
+    entry = b""
+    if kind:
+        content = oracle_entries.by_chance(kind, rnd)
+        entry = oracle_entries.box(kind, damaged(rnd, content) if rnd.random() < .2 else content)
+    common = rnd.choice((0, 0, 1, 0xFFFFFFFF, rnd.randrange(1 << 32)))
+    sizes = [rnd.choice((0, 1, 1000, 0xFFFFFFFF, rnd.randrange(1 << 32))) for _ in range(rnd.randrange(9))]
+    number = rnd.choice((0, 1, 2, 0xFFFFFFFF, rnd.randrange(1 << 32))) if common else len(sizes)
+    return rust_getters.Track(kind, entry, *oracle_tracks.some_time(rnd), common, number, [] if common else sizes)
 
 
 # THE ANSWERS
 
-def original(line, names):
+def answers_of(line, names):
     """None for all where it does not read the entry; `panic` where a question panics."""
     if line.startswith("PANIC"):
         return dict.fromkeys(rust_getters.ASKED)
@@ -83,61 +74,62 @@ def original(line, names):
     return told
 
 
-def names_of(name):
+@functools.cache
+def names_of(oracle):
     """The original's names of object types and channel configurations."""
     found = {}
     for question in ("aot", "chan"):
-        answers = oracle.ask(name, [f"{question} {n}" for n in range(256)])
+        answers = original.ask(oracle, [f"{question} {n}" for n in range(256)])
         found[question] = {answer[3:]: str(n) for n, answer in enumerate(answers) if answer.startswith("OK")}
     return found
 
 
-def compared(tracks, lines, answers):
-    """For each track its classes; prints how often each was met, and every difference of no class."""
-    met, smallest, found = collections.Counter(), {}, []
-    strange = wrong = 0
-    for track, told, theirs in zip(tracks, lines, answers):
-        model = rust_getters.model(track, rust_getters.readings(track).record)
-        if theirs != model:
-            wrong += 1
-            if wrong <= 10:
-                print(f"THE MODEL IS WRONG: {command(track)}\n  {model}\n  {theirs}")
-        found.append(rust_getters.classes(track, told, theirs))
-        for question, numbers, text in rust_getters.differences(track, told, theirs):
-            met[question, "all"] += 1
-            for number in numbers:
-                met[question, number] += 1
-                if (rank := (len(found[-1]), len(command(track)))) < smallest.get(number, ((99, 0),))[0]:
-                    smallest[number] = rank, command(track)
-            if not numbers:
-                strange += 1
-                if strange <= 20:
-                    print(f"NEW: {command(track)}\n  {text}")
-    for question in rust_getters.ASKED:
-        by_class = {number: n for (one, number), n in sorted(met.items(), key=str) if one == question and number != "all"}
-        print(f"  {question}: {len(tracks) - met[question, 'all']} alike, by class {by_class}")
-    for number, (_, text) in sorted(smallest.items()):
-        print(f"  difference {number}: {sum(number in numbers for numbers in found)} tracks, smallest {text}")
-    print(f"in all {len(tracks)} tracks, {sum(not numbers for numbers in found)} alike in every answer; "
-          f"{strange} differences of no class, {wrong} answers that the model has not")
-    return found, strange + wrong
+def by_trak(lines):
+    """The lines of each trak."""
+    group = []
+    for line in lines:
+        if line.startswith("trak\t") and group:
+            yield group
+            group = []
+        group.append(line)
+    if group:
+        yield group
 
 
-def our_lines(program, traks):
-    """Those of expected/describe.py, which must be the program's."""
-    lines = [list(describe.lines(one)) for one in traks]
-    if program is None:
-        return lines
-    for i in range(0, len(traks), PACK):
-        with tempfile.NamedTemporaryFile() as file:
-            file.write(boxes.pack_of(traks[i:i + PACK]))
-            file.flush()
-            run = subprocess.run([*program.split(), file.name], capture_output=True, check=True)
-        told = run.stdout.decode().splitlines()[1:]
-        if told != [line for one in lines[i:i + PACK] for line in one]:
-            print("expected/describe.py and the program differ")
-            sys.exit(1)
-    return lines
+class Getters(original.Domain):
+    """A case is a track of expected/rust_getters.py."""
+    name, crate = "getters", "describe_tracks"
+
+    def chance(self, rnd):
+        return some_track(rnd)
+
+    def made(self, count, seed):
+        rnd = random.Random(seed)
+        return [some_track(rnd) for _ in range(count)]
+
+    def parts(self, case):
+        return [rust_getters.made_trak(case)]
+
+    def second(self, part):
+        return list(describe.lines(part))
+
+    def run(self, program, parts):
+        return by_trak(original.over_packs(program, parts))
+
+    def commands(self, case):
+        return [rust_getters.command(case)]
+
+    def theirs(self, oracle, answers):
+        return answers_of(answers[0], names_of(oracle))
+
+    def asked(self, case, theirs):
+        return rust_getters.ASKED
+
+    def differences(self, case, ours, theirs):
+        for question, numbers, text in rust_getters.differences(case, ours[0], theirs):
+            yield question, numbers or [text]
+        if theirs != (model := rust_getters.model(case, rust_getters.readings(case).record)):
+            yield "model", [f"the model has another answer: {model}"]
 
 
 # THE FIXED LIST
@@ -151,11 +143,12 @@ HEAD = """# Tracks and what the getters of the original, the Rust crate mp4 0.14
 """
 
 
-def store(tracks, answers, found, count, seed):
+def store(found, count, seed):
     met, kept = collections.Counter(), 0
     with open(rust_getters.STORED, "w") as file:
         file.write(HEAD % (count, seed))
-        for track, theirs, numbers in zip(tracks, answers, found):
+        for one in found:
+            track, theirs, numbers = one.case, one.theirs, sorted(one.numbers)
             shown = {("class", number) for number in numbers} | {(track.kind, *numbers)[:3]}
             shown |= {(question, theirs[question]) for question in ("media", "profile", "aot", "freq", "chan")}
             if len(track.entry) < 200 and any(met[feature] < 2 for feature in shown):
@@ -165,27 +158,8 @@ def store(tracks, answers, found, count, seed):
                 kept += 1
                 differs = " ".join(map(str, ["differs", *numbers]))
                 file.write(f"track {rust_getters.track_words(track)}\nanswers {rust_getters.answer_words(theirs)}\n{differs}\n")
-    print(f"{kept} tracks stored")
-
-
-def main():
-    words = sys.argv[1:]
-    storing = words[:1] == ["--store"]
-    if storing:
-        words = words[1:]
-    if len(words) < 3:
-        print(__doc__)
-        return 2
-    name, count, seed = words[0], int(words[1]), int(words[2])
-    tracks = made(count, seed)
-    lines = our_lines(words[3] if len(words) > 3 else None, [made_trak(track) for track in tracks])
-    names = names_of(name)
-    answers = [original(line, names) for line in oracle.ask(name, [command(track) for track in tracks])]
-    found, strange = compared(tracks, lines, answers)
-    if storing and not strange:
-        store(tracks, answers, found, count, seed)
-    return 1 if strange else 0
+    return kept
 
 
 if __name__ == "__main__":
-    sys.exit(main())
+    sys.exit(original.main(__doc__, [Getters()], store))

@@ -11,85 +11,77 @@ compares the program with expected/tables.py on N broken ones, which the origina
 stores some of these with the original's answers in expected/tables.txt.
 """
 import collections
-import os
-import pathlib
 import random
 import re
-import subprocess
 import sys
-import tempfile
 
 import boxes
-import oracle
+import original
 import rust_tables
 import tables
 
 
-def our_tracks(program, data):
-    """For each stbl its lines: from the program, each the same as that of expected/tables.py."""
-    mine = [list(tables.lines(one)) for one in data]
-    if program is None:
-        return mine
-    told = []
-    with tempfile.TemporaryDirectory() as folder:
-        for pack in oracle.packs(data):
-            name = os.path.join(folder, "pack")
-            pathlib.Path(name).write_bytes(boxes.pack_of(pack))
-            run = subprocess.run([*program.split(), name], capture_output=True, text=True, check=True)
-            told += rust_tables.tracks(run.stdout.splitlines()[1:])
-    assert len(told) == len(mine), (len(told), len(mine))
-    wrong = [(one.hex(), a, b) for one, a, b in zip(data, mine, told) if a != b]
-    for one in wrong[:10]:
-        print("expected/tables.py and the program differ:", *one, sep="\n  ")
-    if wrong:
-        sys.exit(1)
-    return told
+def asked_of(question, there):
+    return f"{question} of a sample that is {'there' if there else 'not there'}"
 
 
-def made(count, seed):
-    """So many sound ones, and a quarter of that whose tables disagree on the count."""
-    rnd = random.Random(seed)
-    return [make(rnd) for make in [tables.sound] * count + [tables.uneven] * (count // 4)]
+class Samples(original.Domain):
+    """A case is an stbl that both can be asked about."""
+    crate = "list_samples"
 
+    def parts(self, case):
+        return [case]
 
-def asked_of(ask, data):
-    """The original's answers, without the texts of its errors."""
-    answers = oracle.ask(ask, [rust_tables.command(tables.tables(one)) for one in data])
-    return [re.sub(r" (ERR|PANIC) [^|]*?(?= \||$)", r" \1", answer) for answer in answers]
+    def second(self, part):
+        return list(tables.lines(part))
 
+    def run(self, program, parts):
+        return original.up_to_empty(original.over_packs(program, parts))
 
-def compared(data, tracks, answers):
-    """Prints how many answers there are and how often each class was met, and every difference of no class."""
-    asked, met, shown = collections.Counter(), collections.Counter(), collections.defaultdict(set)
-    least, strange = {}, 0
-    for i, (one, track, answer) in enumerate(zip(data, tracks, answers)):
-        found = tables.tables(one)
+    def commands(self, case):
+        return [rust_tables.command(tables.tables(case))]
+
+    def theirs(self, oracle, answers):
+        """Without the texts of its errors."""
+        return re.sub(r" (ERR|PANIC) [^|]*?(?= \||$)", r" \1", answers[0])
+
+    def asked(self, case, theirs):
+        found = tables.tables(case)
         for number in rust_tables.numbers_asked(found):
             for question in rust_tables.QUESTIONS:
-                asked[question, 0 < number <= tables.count(found)] += 1
-        asked["count", True] += 1
-        asked["total", True] += 1
-        for question, there, number in rust_tables.differences(one, track, answer):
-            if not isinstance(number, int):
-                strange += 1
-                if strange <= 20:
-                    print(f"NEW: {one.hex()}\n  {number}\n  {rust_tables.command(found)}\n  {answer}")
+                yield asked_of(question, 0 < number <= tables.count(found))
+        yield from ("count", "total")
+
+    def differences(self, case, ours, theirs):
+        for question, there, number in rust_tables.differences(case, ours[0], theirs):
+            yield question if question in ("count", "total") else asked_of(question, there), [number]
+
+
+class Tables(Samples):
+    """Sound ones, and some whose tables disagree on the count."""
+    name = "tables"
+
+    def chance(self, rnd):
+        return (tables.uneven if rnd.randrange(5) == 0 else tables.sound)(rnd)
+
+    def made(self, count, seed):
+        """So many sound ones, and a quarter of that whose tables disagree on the count."""
+        rnd = random.Random(seed)
+        return [make(rnd) for make in [tables.sound] * count + [tables.uneven] * (count // 4)]
+
+
+class Broken(Samples):
+    """Tables that disagree in other ways, or whose numbers were changed."""
+    name = "broken tables"
+
+    def chance(self, rnd):
+        while True:
+            data = tables.broken(rnd)
+            try:
+                if rust_tables.is_asked(tables.tables(data)):
+                    return data
+            except boxes.Refused:
                 continue
-            met[question, there, number] += 1
-            shown[number].add(i)
-            if number not in least or len(one) < len(least[number]):
-                least[number] = one
-    for there, words in ((True, "samples that are there"), (False, "samples that are not there")):
-        print(words)
-        for question in rust_tables.QUESTIONS + ("count", "total") * there:
-            by_class = {number: n for (q, t, number), n in sorted(met.items()) if (q, t) == (question, there)}
-            print(f"  {question}: {asked[question, there]} answers, {asked[question, there] - sum(by_class.values())} alike, "
-                  f"by class {by_class}")
-    for number in sorted(shown):
-        print(f"  difference {number}: {len(shown[number])} tables, smallest {least[number].hex()}")
-    print(f"in all {len(data)} tables, {sum(asked.values())} answers, "
-          f"{sum(met.values())} differences, {strange} of no class")
-    return strange
 
 
 # THE FIXED LIST
@@ -109,12 +101,12 @@ def features(one, numbers):
     yield "uneven", len(set(rust_tables.counts(found).values())) > 1
 
 
-def chosen(data, numbers):
+def chosen(found):
     met, keep = collections.Counter(), []
-    for one, shown in sorted(zip(data, numbers), key=lambda pair: len(pair[0])):
-        found = set(features(one, shown))
-        if any(met[feature] < 2 for feature in found):
-            met.update(found)
+    for one in sorted(found, key=lambda one: len(one.case)):
+        has = set(features(one.case, sorted(one.numbers)))
+        if any(met[feature] < 2 for feature in has):
+            met.update(has)
             keep.append(one)
     return keep
 
@@ -127,36 +119,27 @@ HEAD = """# Sample tables (stbl boxes) and what the original, the Rust crate mp4
 """
 
 
-def store(ask, count, seed):
-    data = made(count, seed)
-    tracks = our_tracks(None, data)
-    answers = asked_of(ask, data)
-    if compared(data, tracks, answers):
-        sys.exit(1)
-    told = dict(zip(data, zip(tracks, answers)))
-    numbers = [rust_tables.classes(one, track, answer) for one, track, answer in zip(data, tracks, answers)]
-    keep = chosen(data, numbers)
+def store(found, count, seed):
+    keep = chosen(found)
     with open(rust_tables.STORED, "w") as file:
         file.write(HEAD % (count, seed))
         for one in keep:
-            track, answer = told[one]
-            differs = " ".join(map(str, rust_tables.classes(one, track, answer)))
-            file.write(f"stbl {one.hex()}\nanswers {answer}\ndiffers {differs}\n")
-    print(f"{len(keep)} tables stored")
+            file.write(f"stbl {one.case.hex()}\nanswers {one.theirs}\ndiffers {' '.join(map(str, sorted(one.numbers)))}\n")
+    return len(keep)
 
 
-def main():
-    if sys.argv[1] == "--store":
-        return store(sys.argv[2], int(sys.argv[3]), int(sys.argv[4]))
-    if sys.argv[1] == "--broken":
-        rnd = random.Random(int(sys.argv[3]))
-        tracks = our_tracks(sys.argv[4], [tables.broken(rnd) for _ in range(int(sys.argv[2]))])
-        refused = sum(not track[0].startswith("track") for track in tracks)
-        return print(f"{len(tracks)} broken tables, {refused} of them refused: the program and expected/tables.py agree")
-    data = made(int(sys.argv[2]), int(sys.argv[3]))
-    tracks = our_tracks(sys.argv[4] if len(sys.argv) > 4 else None, data)
-    sys.exit(1 if compared(data, tracks, asked_of(sys.argv[1], data)) else 0)
+def broken(count, seed, program):
+    """Whether the program and expected/tables.py say the same of so many broken ones."""
+    rnd = random.Random(seed)
+    parts = [tables.broken(rnd) for _ in range(count)]
+    ours = [[list(tables.lines(part))] for part in parts]
+    faults = [text for some in original.program_faults(Tables(), program, [[part] for part in parts], ours) for text in some]
+    refused = sum(not lines[0].startswith("track") for lines, in ours)
+    print(*faults[:10], f"{count} broken tables, {refused} of them refused; the program and expected/tables.py differ at {len(faults)}", sep="\n")
+    return 1 if faults else 0
 
 
 if __name__ == "__main__":
-    main()
+    if sys.argv[1:2] == ["--broken"]:
+        sys.exit(broken(int(sys.argv[2]), int(sys.argv[3]), sys.argv[4]))
+    sys.exit(original.main(__doc__, [Tables()], store))

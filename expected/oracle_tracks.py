@@ -12,17 +12,16 @@ stores some of these with the original's answers in expected/tracks.txt.
 """
 import collections
 import random
-import subprocess
 import sys
 
-import oracle
 import oracle_entries
+import original
 import rust_tracks
 import summaries
 import tables
 from oracle_entries import box
 
-MOST_ROWS = 2000  # of one standard input of the program
+MOST_BYTES = 2000 * summaries.ROW  # of one standard input of the program
 
 
 def entry(rnd):
@@ -58,66 +57,49 @@ def some_size(rnd):
                        summaries.LAST32, summaries.some(rnd, 32)))
 
 
-def made(count, seed):
-    """Commands and the tracks that they tell of."""
-    rnd = random.Random(seed)
-    found = []
-    for i in range(count):
-        told = tables.tables((tables.uneven if i % 5 == 0 else tables.sound)(rnd))
-        word, avc1, mp4a = entry(rnd)
-        handler = rnd.choice(("vide", "soun", "sbtl", "vide", "soun", rnd.choice(("hint", "text", "VIDE", "meta", "subt"))))
-        track = rust_tracks.Track(rust_tracks.counts(told), *some_time(rnd), some_size(rnd), some_size(rnd), handler, avc1, mp4a)
-        found.append((rust_tracks.command(told, track, word), track))
-    return found
+def some_track(rnd, make):
+    """A command and the track that it tells of; its tables are made so."""
+    told = tables.tables(make(rnd))
+    word, avc1, mp4a = entry(rnd)
+    handler = rnd.choice(("vide", "soun", "sbtl", "vide", "soun", rnd.choice(("hint", "text", "VIDE", "meta", "subt"))))
+    track = rust_tracks.Track(rust_tracks.counts(told), *some_time(rnd), some_size(rnd), some_size(rnd), handler, avc1, mp4a)
+    return rust_tracks.command(told, track, word), track
 
 
-def our_lines(program, tracks):
-    rows = [rust_tracks.row(track) for track in tracks]
-    lines = [summaries.line(*row) for row in rows]
-    if program is not None:
-        told = []
-        for i in range(0, len(rows), MOST_ROWS):
-            data = summaries.row_bytes(rows[i:i + MOST_ROWS])
-            run = subprocess.run(program.split(), input=data, capture_output=True, check=True)
-            told += run.stdout.decode().splitlines()
-        assert len(told) == len(lines), (len(told), len(lines))
-        wrong = [(row, a, b) for row, a, b in zip(rows, lines, told) if a != b]
-        for one in wrong[:10]:
-            print("expected/summaries.py and the program differ:", *one, sep="\n  ")
-        if wrong:
-            sys.exit(1)
-    return lines
+class Tracks(original.Domain):
+    """A case is a command and the track that it tells of."""
+    name, crate = "tracks", "summarise"
 
+    def chance(self, rnd):
+        return some_track(rnd, tables.uneven if rnd.randrange(5) == 0 else tables.sound)
 
-def compared(cases, lines, answers):
-    """For each track its classes; prints how often each was met, and every difference of no class."""
-    met, smallest, found = collections.Counter(), {}, []
-    strange = wrong = 0
-    for (command, track), line, answer in zip(cases, lines, answers):
-        theirs, model = rust_tracks.original(answer), rust_tracks.model(track)
-        if theirs != model:
-            wrong += 1
-            if wrong <= 10:
-                print(f"THE MODEL IS WRONG: {command}\n  {model}\n  {theirs}")
-        found.append(rust_tracks.classes(track, line, answer))
-        for question, number in rust_tracks.differences(track, line, answer):
-            if isinstance(number, int):
-                met[question, number] += 1
-                if (rank := (len(found[-1]), len(command))) < smallest.get(number, ((99, 0),))[0]:
-                    smallest[number] = rank, command
-            else:
-                strange += 1
-                if strange <= 20:
-                    print(f"NEW: {command}\n  {number}")
-    for question in rust_tracks.QUESTIONS:
-        by_class = {number: n for (one, number), n in sorted(met.items()) if one == question}
-        if question != "bitrate":
-            print(f"  {question}: {len(cases) - sum(by_class.values())} alike, by class {by_class}")
-    for number, (_, command) in sorted(smallest.items()):
-        print(f"  difference {number}: {sum(number in numbers for numbers in found)} tracks, smallest {command}")
-    print(f"in all {len(cases)} tracks, {sum(not numbers for numbers in found)} alike in every answer; "
-          f"{strange} differences of no class, {wrong} answers that the model has not")
-    return found, strange + wrong
+    def made(self, count, seed):
+        rnd = random.Random(seed)
+        return [some_track(rnd, tables.uneven if i % 5 == 0 else tables.sound) for i in range(count)]
+
+    def parts(self, case):
+        return [summaries.row_bytes([rust_tracks.row(case[1])])]
+
+    def second(self, part):
+        return list(summaries.lines(part))
+
+    def run(self, program, parts):
+        return ([line] for line in original.over_input(program, parts, MOST_BYTES))
+
+    def commands(self, case):
+        return [case[0]]
+
+    def theirs(self, oracle, answers):
+        return answers[0]
+
+    def asked(self, case, theirs):
+        return [question for question in rust_tracks.QUESTIONS if question != "bitrate"]
+
+    def differences(self, case, ours, theirs):
+        for question, number in rust_tracks.differences(case[1], ours[0][0], theirs):
+            yield question, [number]
+        if rust_tracks.original(theirs) != (model := rust_tracks.model(case[1])):
+            yield "model", [f"the model has another answer: {model}"]
 
 
 # THE FIXED LIST
@@ -144,42 +126,23 @@ def features(track, numbers):
     yield "size", track.width % 65536 == 0, track.width >> 31, track.height % 65536 == 0
 
 
-def store(name, count, seed):
-    cases = made(count, seed)
-    tracks = [track for _, track in cases]
-    lines = our_lines(None, tracks)
-    answers = oracle.ask(name, [command for command, _ in cases])
-    found, strange = compared(cases, lines, answers)
-    if strange:
-        return 1
+def store(found, count, seed):
     met, kept = collections.Counter(), 0
     with open(rust_tracks.STORED, "w") as file:
         file.write(HEAD % (count, seed))
-        for track, answer, numbers in zip(tracks, answers, found):
+        for one in found:
+            track, numbers = one.case[1], sorted(one.numbers)
             shown = set(features(track, numbers))
             if any(met[feature] < 10 for feature in shown):
                 assert rust_tracks.track_of(rust_tracks.told_of(track)) == track
                 met.update(shown)
                 kept += 1
-                answer = " | ".join(f"{one} OK {told}" if told not in ("ERR", "PANIC") else f"{one} {told}"
-                                    for one, told in rust_tracks.original(answer).items())
+                answer = " | ".join(f"{question} OK {told}" if told not in ("ERR", "PANIC") else f"{question} {told}"
+                                    for question, told in rust_tracks.original(one.theirs).items())
                 differs = " ".join(map(str, ["differs", *numbers]))
                 file.write(f"track {rust_tracks.told_of(track)}\nanswers {answer}\n{differs}\n")
-    print(f"{kept} tracks stored")
-    return 0
-
-
-def main():
-    if len(sys.argv) < 4:
-        print(__doc__)
-        return 2
-    if sys.argv[1] == "--store":
-        return store(sys.argv[2], int(sys.argv[3]), int(sys.argv[4]))
-    cases = made(int(sys.argv[2]), int(sys.argv[3]))
-    lines = our_lines(sys.argv[4] if len(sys.argv) > 4 else None, [track for _, track in cases])
-    answers = oracle.ask(sys.argv[1], [command for command, _ in cases])
-    return 1 if compared(cases, lines, answers)[1] else 0
+    return kept
 
 
 if __name__ == "__main__":
-    sys.exit(main())
+    sys.exit(original.main(__doc__, [Tracks()], store))

@@ -599,12 +599,24 @@ def several_references(d):
     return of_dinf(d) and len(entries(d)) > 1
 
 
+def is_faulty(place, dref):
+    """Whether we find a fault in a dref, in the heads of its entries or in its urls."""
+    def refused(part):
+        return boxes.told(part)[0][0] == "refused"
+    return refused(dref) or any(part is None or part[4:8] == b"url " and refused(part) for _, part in counted(place, dref))
+
+
 @of_class(16)
 def once_only_twice(d):
-    """Two dref: the last one wins. Our reader of the box takes the first; in a file the second is 6."""
+    """Two dref: the last one wins, and one with a fault is refused. Our reader of the box takes the first; in a file the
+    second is 6."""
     drefs = [place for place in children(d)[0] if child_kind(d, place) == "dref"] if d.kind == "dinf" else []
-    return (len(drefs) > 1 and not d.ours.refused and d.rust.how == "OK"
-            and (d.name in ("version", "flags", "url", "url version", "url flags", "location", "url wrote") or of_dinf(d)))
+    if len(drefs) < 2 or d.ours.refused:
+        return False
+    if d.name == "refused":
+        return d.other == "ERR" and any(is_faulty(place, d.data[place:boxes.header(d.data)[1]]) for place in drefs[1:])
+    return d.rust.how == "OK" and (d.name in ("version", "flags", "url", "url version", "url flags", "location", "url wrote")
+                                   or of_dinf(d))
 
 
 def behind_the_entries(d):
@@ -634,27 +646,34 @@ def no_dref(d):
     return d.kind == "dinf" and d.name == "refused" and d.other == "ERR" and d.ours.words == [0]
 
 
+def locations(d):
+    """Of our urls, where both read a dinf."""
+    return [text(one.words[2]) for one in urls(d)] if d.kind == "dinf" and not d.ours.refused and d.rust.how == "OK" else []
+
+
+def kept_location(d):
+    """That of the url that the original keeps, where it keeps one."""
+    url = d.rust.record["dref"]["url"]
+    return url and url["location"]
+
+
 @of_class(38)
 def url_not_utf8(d):
-    locations = [text(one.words[2]) for one in urls(d)] if d.kind == "dinf" and not d.ours.refused else []
-    if not locations or is_utf8(locations[-1][:-1]):
+    if not locations(d) or is_utf8(locations(d)[-1][:-1]):
         return False
-    return d.name in ("location", "url wrote") and d.rust.record["dref"]["url"]["location"] == b"" or of_dinf(d)
+    return d.name in ("location", "url wrote") and kept_location(d) == b"" or of_dinf(d)
 
 
 @of_class(78)
 def url_without_its_0(d):
-    locations = [text(one.words[2]) for one in urls(d)] if d.kind == "dinf" and not d.ours.refused else []
-    if not locations or not locations[-1] or locations[-1][-1] == 0:
+    if not locations(d) or not locations(d)[-1] or locations(d)[-1][-1] == 0:
         return False
-    kept_location = d.rust.record["dref"]["url"]["location"]
-    return d.name in ("location", "url wrote") and kept_location == locations[-1][:-1] or of_dinf(d)
+    return d.name in ("location", "url wrote") and kept_location(d) == locations(d)[-1][:-1] or of_dinf(d)
 
 
 @of_class(79)
 def url_of_one_0(d):
-    locations = [text(one.words[2]) for one in urls(d)] if d.kind == "dinf" and not d.ours.refused else []
-    return bool(locations) and locations[-1] == b"\0" and (d.name == "url wrote" or of_dinf(d))
+    return bool(locations(d)) and locations(d)[-1] == b"\0" and (d.name == "url wrote" or of_dinf(d))
 
 
 def in_dref(d, mine):

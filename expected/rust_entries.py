@@ -283,9 +283,9 @@ def read_descriptor(s):
     return tag, length
 
 
-def inside(s, end):
-    """From here on in a descriptor that says that it ends there."""
-    s.ends.append((end, 90))
+def inside(s, end, second=None):
+    """From here on in a descriptor that says that it ends there, the second of its kind where there was one."""
+    s.ends.append((end, 122 if second else 90))
 
 
 def read_esds(s, size):
@@ -322,7 +322,7 @@ def read_es(s, length):
         if tag == 4:
             if decoder:
                 s.note(93)
-            inside(s, s.at + own)
+            inside(s, s.at + own, decoder)
             decoder = read_decoder(s, own)
             s.ends.pop()
         elif tag == 6:
@@ -356,7 +356,7 @@ def read_decoder(s, length):
         if tag == 5:
             if specific:
                 s.note(97)
-            inside(s, s.at + own)
+            inside(s, s.at + own, specific)
             specific = read_specific(s, own)
             s.ends.pop()
         else:
@@ -667,12 +667,12 @@ MAKES = {
     83: {"wrote itself"}, 84: TAKEN | {"refused", "child", "wrote"}, 85: {"taken 1", "taken 2", "wrote"}, 86: {"wrote"}, 87: {"wrote itself"},
     88: {"taken 1", "wrote"}, 89: {"taken 1"}, 90: {"taken 1"}, 91: DECODER | TAKEN | {"es_id", "refused", "wrote"},
     92: DECODER | TAKEN | {"refused", "wrote"}, 93: DECODER | {"wrote"}, 94: {"wrote"}, 95: {"wrote"}, 96: {"wrote"},
-    97: AUDIO | {"taken 1", "wrote"}, 98: {"wrote"}, 99: {"wrote"}, 102: {"layer"},
+    97: AUDIO | {"taken 1", "wrote"}, 98: {"wrote"}, 99: {"wrote"}, 102: {"layer"}, 122: TAKEN | {"refused"},
 }
 
 
 # where the original looks elsewhere than we do, and so takes any fault that we find
-ELSEWHERE = (25, 48, 49, 50, 51, 52, 75, 84, 85, 91, 92, 97)
+ELSEWHERE = (25, 48, 49, 50, 51, 52, 75, 84, 85, 91, 92, 97, 122)
 
 
 def classes(kind, data, ours, answer):
@@ -871,8 +871,8 @@ def stored():
         yield box[0], kind, bytes.fromhex(digits), read[2], copy[2], [int(number) for number in differs[2].split()]
 
 
-def asking(kind, data):
-    return bytes(4) + kind.ljust(4).encode() + data
+def asking(letters, data):
+    return bytes(4) + letters + data
 
 
 # what crates/copy_entries tells; of the others the second implementation alone answers
@@ -885,7 +885,7 @@ def is_known(part):
 
 def members(what, kind, data):
     """What our answer is made of."""
-    return [asking(kind, data)] if what == "ask" else [part for _, part in parts(kind, data)]
+    return [asking(kind.ljust(4).encode(), data)] if what == "ask" else [part for _, part in parts(kind, data)]
 
 
 def pack():

@@ -23,11 +23,25 @@ QUESTIONS = ("offset", "size", "time", "cto", "sync")
 
 def counts(found):
     """How many samples each question's table has."""
-    return {"size": found.count, "time": sum(n for n, _ in found.stts), "offset": sum(tables.per_chunk(found))}
+    placed = sum(per for per, _ in zip(tables.per_chunk(found), found.chunks))
+    return {"size": found.count, "time": sum(n for n, _ in found.stts), "offset": placed}
+
+
+MOST = 64  # samples that are asked for one by one
 
 
 def numbers_asked(found):
-    return [*range(max(counts(found).values()) + 3), tables.FAR]
+    """All of them, 0 and some past the end; of tables that count more also those around their ends."""
+    each = [min(count, MOST) for count in counts(found).values()]
+    around = [count + i for count in counts(found).values() for i in (-1, 0, 1) if MOST < count + i < 1 << 32]
+    return sorted({*range(max(each) + 3), *around, tables.FAR})
+
+
+def is_asked(found):
+    """Whether the original can be asked about these tables: its reader, which is not supplied, must have a first sample for each
+    entry of stsc, and it adds up the sizes before a sample in its chunk one by one."""
+    return (tables.count(found) <= MOST and all(per <= 1 << 16 for _, per, _ in found.stsc)
+            and all(first < 1 << 32 for first in first_samples(found)))
 
 
 def first_samples(found):
@@ -112,8 +126,8 @@ class Ours:
 # THE DIFFERENCES
 
 def before(found):
-    """For each sample its chunk's place and the bytes before it in the chunk."""
-    sizes = [found.common] * found.count if found.common else found.sizes
+    """For each sample that is there its chunk's place and the bytes before it in the chunk."""
+    sizes = [found.common] * tables.count(found) if found.common else found.sizes
     number, told = 0, {}
     for per, at in zip(tables.per_chunk(found), found.chunks):
         within = 0
@@ -131,19 +145,31 @@ def added_in_32_bits(found, number):
     return (at + within % (1 << 32)) % (1 << 64)
 
 
+def passes_32_bits(found, question, number):
+    """Whether the counts up to the entry of a sample, and 1 before them, have no 32 bits (58)."""
+    total = 1
+    for count, _ in {"time": found.stts, "cto": found.ctts or []}.get(question, []):
+        total += count
+        if total >> 32 or number < total:
+            return total >> 32 > 0
+    return False
+
+
 def of_sample(found, ours, number, theirs):
     """The differences at one sample: the question, and a number of a class or the words of one that has none."""
     mine = ours.answers(number)
     for question in QUESTIONS:
         told = theirs["%s:%d" % (question, number)]
         answered = told not in ("ERR", "PANIC")
+        past = passes_32_bits(found, question, number) and told == {"time": "ERR", "cto": 0}[question]
         if mine is not None:
             if told != mine[question]:
                 in_32_bits = question == "offset" and before(found)[number][1] >= 1 << 32 and told == added_in_32_bits(found, number)
-                yield question, 9 if in_32_bits else "%s of sample %d: %s and %s" % (question, number, mine[question], told)
+                words = "%s of sample %d: %s and %s" % (question, number, mine[question], told)
+                yield question, 58 if past else 9 if in_32_bits else words
         elif number in ours.over and (question != "sync" or told != ours.over[number]):
             fits = answered and (question != "offset" or told == added_in_32_bits(found, number))
-            yield question, 56 if fits else "%s of sample %d, which does not fit: %s" % (question, number, told)
+            yield question, 56 if fits else 58 if past else "%s of sample %d, which does not fit: %s" % (question, number, told)
         elif number not in ours.over and told != "ERR":  # it is not there
             if number == 0:
                 yield question, 5
