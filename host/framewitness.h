@@ -40,12 +40,15 @@ extern "C" {
    12: also is 4. */
 uint32_t framewitness_audit(const uint8_t *file, size_t length, uint64_t *out, size_t room, uint64_t *also);
 
-/* Lists the samples of the track at `place` in the moov box (the first is 0), seven words for each: its number, its offset
-   in the file, its size, its time, its duration, its composition offset (signed, in two's complement), and 1 where it is a
-   sync sample, else 0. also: how many samples. 12: also is how many there are, and seven words are needed for each.
-   5 with `trak`: there is no such track.
-   This and the following two ask 1 to 8 of the whole file, and 9 of what they tell. The audit asks everything, so it
+/* Tells the number of the track at `place` in the moov box (the first is 0). also: the number. 5 with `trak`: there is no
+   such track.
+   This and the following three ask 1 to 8 of the whole file, and 9 of what they tell. The audit asks everything, so it
    comes first. */
+uint32_t framewitness_track(const uint8_t *file, size_t length, size_t place, uint64_t *also);
+
+/* Lists the samples of the track at `place`, seven words for each: its number, its offset
+   in the file, its size, its time, its duration, its composition offset (signed, in two's complement), and 1 where it is a
+   sync sample, else 0. also: how many samples. 12: also is how many there are, and seven words are needed for each. */
 uint32_t framewitness_list(const uint8_t *file, size_t length, size_t place, uint64_t *out, size_t room, uint64_t *also);
 
 /* Tells one sample of that track by its number (the first is 1), in the same seven words. also 1. 11: there is no such

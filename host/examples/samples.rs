@@ -3,7 +3,7 @@ use framewitness::{Recording, Refusal};
 pub fn main() -> Result<(), Box<dyn std::error::Error>> {
     let recording = Recording::open("recording.mp4")?;
     for track in recording.tracks()? {
-        let summary = track.summary();
+        let summary = track.summary()?;
         println!("track {}: {}", track.number(), summary.handler);
         for sample in track.samples()? {
             // the sample's own bytes, where they lie in the file

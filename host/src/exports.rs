@@ -1,4 +1,4 @@
-//! The four functions of the proved library. `checks/exports` holds these declarations against the library's source.
+//! The functions of the proved library. `checks/exports` holds these declarations against the library's source.
 
 extern "C" {
     fn framewitness_audit(
@@ -8,6 +8,7 @@ extern "C" {
         room: usize,
         also: *mut u64,
     ) -> u32;
+    fn framewitness_track(file: *const u8, length: usize, place: usize, also: *mut u64) -> u32;
     fn framewitness_list(
         file: *const u8,
         length: usize,
@@ -42,7 +43,7 @@ pub struct Answer {
     pub also: u64,
 }
 
-// Each of the four requires nothing of its arguments but that they are what Rust's borrows are: `file` is read within its
+// Each of them requires nothing of its arguments but that they are what Rust's borrows are: `file` is read within its
 // length alone, `out` and `also` are written within theirs, and the three lie apart.
 
 pub fn audit(file: &[u8], out: &mut [u64]) -> Answer {
@@ -57,6 +58,12 @@ pub fn audit(file: &[u8], out: &mut [u64]) -> Answer {
             &mut also,
         )
     };
+    Answer { number, also }
+}
+
+pub fn track(file: &[u8], place: usize) -> Answer {
+    let mut also = 0;
+    let number = unsafe { framewitness_track(file.as_ptr(), file.len(), place, &mut also) };
     Answer { number, also }
 }
 

@@ -62,8 +62,6 @@ impl<'a> Recording<'a> {
 
     /// The tracks, in the order of the file's moov box. The file is audited first, at each call; where that refuses it,
     /// this does so too, and a finding does not hinder it.
-    ///
-    /// One thing more is refused, as [`Refusal::OutOfRange`]: a track whose duration has no 64 bits in microseconds.
     pub fn tracks(&self) -> Result<Vec<Track<'_>>, Refusal> {
         if let Verdict::Refused(refusal) = self.audit() {
             return Err(refusal);

@@ -8,7 +8,7 @@ use std::fmt;
 pub struct Track<'a> {
     file: &'a [u8],
     place: usize, // in the moov box, counted from 0
-    summary: Summary,
+    number: u32,
 }
 
 /// What a track tells of itself.
@@ -66,12 +66,11 @@ const SUMMARY: usize = 12;
 impl<'a> Track<'a> {
     // The track at a place in the moov box, if there is one.
     pub(crate) fn at(file: &'a [u8], place: usize) -> Result<Option<Track<'a>>, Refusal> {
-        let mut words = [0; SUMMARY];
-        match done(exports::summary(file, place, &mut words)) {
-            Ok(_) => Ok(Some(Track {
+        match done(exports::track(file, place)) {
+            Ok(number) => Ok(Some(Track {
                 file,
                 place,
-                summary: Summary::of(words),
+                number: number as u32,
             })),
             Err(Refusal::Missing {
                 letters: FourLetters([b't', b'r', b'a', b'k']),
@@ -82,20 +81,28 @@ impl<'a> Track<'a> {
 
     /// The number that the file gives to the track.
     pub fn number(&self) -> u32 {
-        self.summary.number
+        self.number
     }
 
-    /// What the track tells of itself.
-    pub fn summary(&self) -> &Summary {
-        &self.summary
+    /// What the track tells of itself. Refused, as [`Refusal::OutOfRange`], where its duration has no 64 bits in
+    /// microseconds.
+    pub fn summary(&self) -> Result<Summary, Refusal> {
+        let mut words = [0; SUMMARY];
+        done(exports::summary(self.file, self.place, &mut words))?;
+        Ok(Summary::of(words))
     }
 
     /// All samples of the track, in their order.
     pub fn samples(&self) -> Result<Vec<Sample>, Refusal> {
-        let mut words = vec![0; self.summary.samples as usize * RECORD];
-        let many = done(exports::list(self.file, self.place, &mut words))?;
-        let records = words.chunks_exact(RECORD).take(many as usize);
-        Ok(records.map(Sample::of).collect())
+        // where no room is lent, the refusal tells how many there are
+        let many = match done(exports::list(self.file, self.place, &mut [])) {
+            Ok(none) => none,
+            Err(Refusal::NoRoom { needed }) => needed,
+            Err(refusal) => return Err(refusal),
+        };
+        let mut words = vec![0; many as usize * RECORD];
+        done(exports::list(self.file, self.place, &mut words))?;
+        Ok(words.chunks_exact(RECORD).map(Sample::of).collect())
     }
 
     /// The sample of this number; the first is 1. It is found from the tables without listing the others.
@@ -115,7 +122,7 @@ impl<'a> Track<'a> {
 
 impl fmt::Debug for Track<'_> {
     fn fmt(&self, f: &mut fmt::Formatter<'_>) -> fmt::Result {
-        f.debug_tuple("Track").field(&self.summary).finish()
+        write!(f, "Track({})", self.number)
     }
 }
 

@@ -43,6 +43,13 @@ pub fn of_an_audit(files: &Files) {
     asks("f8_case7.mp4", 8, [1, 0, 735, u64::MAX]); // -1
 }
 
+pub fn of_a_number(files: &Files) {
+    let file = files.bytes("f1_second_track.mp4");
+    assert_eq!(exports::track(&file, 0), answer(0, 1));
+    assert_eq!(exports::track(&file, 1), answer(0, 7));
+    assert_eq!(exports::track(&file, 2), answer(5, TRAK));
+}
+
 pub fn of_a_list(files: &Files) {
     let file = files.bytes("clean_ctts.mp4");
     let words = [
@@ -82,6 +89,7 @@ pub fn of_no_track(files: &Files) {
     let file = files.bytes("clean_case2.mp4");
     for place in [1, 4, usize::MAX] {
         let want = answer(5, TRAK);
+        assert_eq!(exports::track(&file, place), want);
         assert_refused(want, 14, |out| exports::list(&file, place, out));
         assert_refused(want, 14, |out| exports::sample(&file, place, 1, out));
         assert_refused(want, 14, |out| exports::summary(&file, place, out));
@@ -92,6 +100,7 @@ pub fn of_a_refused_file(files: &Files) {
     let file = files.bytes("r5_moov.mp4");
     let want = answer(5, MOOV);
     assert_refused(want, 14, |out| exports::audit(&file, out));
+    assert_eq!(exports::track(&file, 0), want);
     assert_refused(want, 14, |out| exports::list(&file, 0, out));
     assert_refused(want, 14, |out| exports::sample(&file, 0, 1, out));
     assert_refused(want, 14, |out| exports::summary(&file, 0, out));

@@ -49,6 +49,7 @@ const TESTS: &[(&str, Test)] = &[
         tracks::past_all_microseconds,
     ),
     ("answers::of_an_audit", answers::of_an_audit),
+    ("answers::of_a_number", answers::of_a_number),
     ("answers::of_a_list", answers::of_a_list),
     ("answers::of_one_sample", answers::of_one_sample),
     ("answers::of_a_summary", answers::of_a_summary),

@@ -40,7 +40,7 @@ pub fn of_all_files(files: &Files) {
                 },
                 Ok(all),
             ) => {
-                let summaries = || all.iter().map(Track::summary);
+                let summaries = || all.iter().map(|track| track.summary().unwrap());
                 assert_eq!(all.len(), tracks as usize, "{name}");
                 assert_eq!(
                     summaries().map(|s| s.samples as u64).sum::<u64>(),
@@ -59,10 +59,11 @@ pub fn of_all_files(files: &Files) {
 // The samples are those that the summary counts, in their order.
 fn assert_sound(track: &Track, name: &str) {
     let samples = track.samples().unwrap();
-    assert_eq!(samples.len(), track.summary().samples as usize, "{name}");
+    let summary = track.summary().unwrap();
+    assert_eq!(samples.len(), summary.samples as usize, "{name}");
     assert_eq!(
         samples.iter().map(|s| s.size as u64).sum::<u64>(),
-        track.summary().bytes,
+        summary.bytes,
         "{name}"
     );
     assert!(
@@ -188,7 +189,7 @@ pub fn summed_up(files: &Files) {
         height: 96.0,
         language: ['u', 'n', 'd'],
     };
-    assert_eq!(tracks[0].summary(), &video);
+    assert_eq!(tracks[0].summary(), Ok(video));
     let sound = Summary {
         number: 2,
         handler: FourLetters(*b"soun"),
@@ -203,22 +204,28 @@ pub fn summed_up(files: &Files) {
         height: 0.0,
         language: ['u', 'n', 'd'],
     };
-    assert_eq!(tracks[1].summary(), &sound);
+    assert_eq!(tracks[1].summary(), Ok(sound));
 
     let bare = Recording::open(files.path("clean_case2.mp4")).unwrap();
-    let bare = bare.tracks().unwrap()[0].summary().clone();
+    let bare = bare.tracks().unwrap()[0].summary().unwrap();
     assert_eq!(bare.entry, Some(FourLetters(*b"none")));
     assert_eq!((bare.duration, bare.micros, bare.frame_rate), (0, 0, 0.0));
 }
 
-/// A duration that has no 64 bits in microseconds refuses no file, and yet its tracks.
+/// A duration that has no 64 bits in microseconds refuses the summary alone.
 pub fn past_all_microseconds(files: &Files) {
     let mut bytes = files.bytes("clean_version_1.mp4");
     let mdhd = bytes.windows(4).position(|four| four == b"mdhd").unwrap();
     bytes[mdhd + 28..mdhd + 36].fill(0xff); // its duration, in version 1
     let recording = Recording::lend(&bytes);
     assert!(recording.audit().is_clean());
-    assert_eq!(recording.tracks().unwrap_err(), Refusal::OutOfRange);
+    let tracks = recording.tracks().unwrap();
+    assert_eq!(tracks[0].number(), 1);
+    assert_eq!(tracks[0].summary(), Err(Refusal::OutOfRange));
+    let whole = Recording::open(files.path("clean_version_1.mp4")).unwrap();
+    let want = whole.tracks().unwrap()[0].samples().unwrap();
+    assert!(!want.is_empty());
+    assert_eq!(tracks[0].samples(), Ok(want));
 }
 
 fn line_of(track: u32, s: &Sample) -> String {

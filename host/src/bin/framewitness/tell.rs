@@ -120,7 +120,7 @@ fn summary(tracks: &[Track]) -> Result<String, Refusal> {
         "track\tkind\tentry\tlanguage\ttimescale\tduration\tmicroseconds\tsamples\tbytes\tframes\twidth\theight\n",
     );
     for track in tracks {
-        let s = track.summary();
+        let s = track.summary()?;
         let entry = s
             .entry
             .map_or("-".to_string(), |letters| letters.to_string());
