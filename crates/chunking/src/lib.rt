@@ -3,15 +3,9 @@
 ghost use mathlib.Core.Path.{_≡_};
 ghost use Rattle.chunking.specs.Chunking.{piece, empty, alone, goesOn, stepOf, finishOf, openOf};
 ghost use Rattle.chunking.specs.Entries.{fitsIn};
-ghost use Rattle.numbers.specs.Field.{refusal};
-ghost use Rattle.put.specs.declared.Put.the-variants.{Refused};
 use columns::Rule;
 use merging::MOST;
-use numbers::Refusal;
-use put::Put;
-
-pub mod offsets;
-pub mod stsc;
+use merging::Open;
 
 // The samples that are in a chunk: where the first lies, how many there are, how long they last, and where the last one
 // lies and its size. A chunk that counts 0 has none yet.
@@ -29,6 +23,13 @@ pub enum Step {
     Closed { chunk: Chunk, open: Chunk },
 }
 
+// For stsc: the chunks of the open run, the number of its first chunk, and how many numbers were put.
+pub struct Group {
+    pub run: Open,
+    pub first: u64,
+    pub k: usize,
+}
+
 // A chunk of one sample.
 fn only(offset: u64, size: u32, duration: u32) -> Chunk
     ensures { λ r. ⌜ r ≡ alone (piece offset size duration) ⌝ }
@@ -43,7 +44,7 @@ fn only(offset: u64, size: u32, duration: u32) -> Chunk
 }
 
 // The chunk before the first sample.
-pub(crate) fn none() -> Chunk
+pub fn none() -> Chunk
     ensures { λ r. ⌜ r ≡ empty ⌝ }
 {
     Chunk {
@@ -76,7 +77,7 @@ fn joins(chunk: Chunk, timescale: u32, offset: u64) -> bool
 }
 
 // The chunk, and one more sample.
-pub(crate) fn next(chunk: Chunk, timescale: u32, offset: u64, size: u32, duration: u32) -> Step
+pub fn next(chunk: Chunk, timescale: u32, offset: u64, size: u32, duration: u32) -> Step
     ensures { λ r. ⌜ r ≡ stepOf timescale chunk (piece offset size duration) ⌝ }
 {
     let count = chunk.count;
@@ -100,11 +101,11 @@ pub(crate) fn next(chunk: Chunk, timescale: u32, offset: u64, size: u32, duratio
 }
 
 // The chunk after the last sample: closed, where it counts any.
-pub(crate) fn finish(chunk: Chunk) -> Step
+pub fn finish(chunk: Chunk) -> Step
     ensures { λ r. ⌜ r ≡ finishOf chunk ⌝ }
 {
-    let count = chunk.count;
-    if count == 0 {
+    let counted = chunk.count;
+    if counted == 0 {
         return Step::Longer(none());
     }
     Step::Closed {
@@ -114,7 +115,7 @@ pub(crate) fn finish(chunk: Chunk) -> Step
 }
 
 // The chunk that is open after a step.
-pub(crate) fn after(step: Step) -> Chunk
+pub fn after(step: Step) -> Chunk
     ensures { λ r. ⌜ r ≡ openOf step ⌝ }
 {
     match step {
@@ -123,17 +124,8 @@ pub(crate) fn after(step: Step) -> Chunk
     }
 }
 
-pub(crate) fn refuse(number: u32, detail: usize) -> Put
-    ensures { λ r. ⌜ r ≡ Refused (refusal number detail) ⌝ }
-{
-    Put::Refused(Refusal {
-        number: number,
-        detail: detail,
-    })
-}
-
 // Whether the sizes and the durations of the first n records have 32 bits.
-pub(crate) fn fit(records: &[u64], n: usize) -> bool
+pub fn fit(records: &[u64], n: usize) -> bool
     ensures { λ r. ⌜ r ≡ fitsIn (now (records .entry)) n ⌝ }
 {
     if !columns::all_right(records, n, columns::SIZE, Rule::Narrow) {

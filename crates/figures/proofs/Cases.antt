@@ -14,7 +14,7 @@ use Rattle.numbers.specs.declared.U64.the-variants as u64
 use Rattle.numbers.proofs.Chain.{is-eq, is-ne, is-le, not-le}
 use Rattle.samples.specs.Records.{output}
 use Rattle.samples.specs.declared.Listed.the-variants as listed
-use Rattle.types.specs.Duration.{microsOf}
+use Rattle.duration.specs.Duration.{microsOf}
 use Rattle.summary.specs.Figures.{framesOf}
 use Rattle.tkhd.specs.declared.Tkhd.{Tkhd}
 use Rattle.tkhd.specs.declared.Found as tkhd

@@ -13,7 +13,7 @@ use Rattle.numbers.specs.declared.U64.{U64}
 use Rattle.numbers.specs.declared.U64.the-variants as u64
 use Rattle.samples.specs.Records.{Output, output}
 use Rattle.samples.specs.declared.Listed.the-variants as listed
-use Rattle.types.specs.Duration.{microsOf}
+use Rattle.duration.specs.Duration.{microsOf}
 use Rattle.summary.specs.Figures.{framesOf}
 use Rattle.tkhd.specs.declared.Tkhd.{Tkhd}
 use Rattle.tkhd.specs.declared.Found as tkhd

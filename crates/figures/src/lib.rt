@@ -90,7 +90,7 @@ fn rest(trak: &[u8], head: Tkhd, media: Mdhd, samples: u32, bytes: u64) -> Told
         hdlr::Found::Refused(third) => Told::Refused(third),
         hdlr::Found::Is(d) => match trak_boxes::entry_kind(trak) {
             U32::Refused(fourth) => Told::Refused(fourth),
-            U32::Is(entry) => match types::duration::micros(media.duration, media.timescale) {
+            U32::Is(entry) => match duration::micros(media.duration, media.timescale) {
                 U64::Refused(fifth) => Told::Refused(fifth),
                 U64::Is(micros) => Told::Is(build(
                     head,

@@ -43,7 +43,7 @@ fn found(file: &[u8], source: Source, runs: &[u64], rows: usize, number: u32) ->
     if source.fragmented {
         return runlookup::sample(file, runs, rows, source.number, number);
     }
-    lookup::sample(file, source.tables, number)
+    locate::sample(file, source.tables, number)
 }
 
 // Whether it is sync.
