@@ -30,9 +30,9 @@ def tkhd(number=1, version=0):
     return full("tkhd", bytes(2 * wide) + u32(number) + bytes(4 + wide + 8 + 8 + 36 + 8), version, flags=3)
 
 
-def mdhd(timescale=1000, version=0):
+def mdhd(timescale=1000, version=0, duration=0):
     wide = 8 if version == 1 else 4
-    return full("mdhd", bytes(2 * wide) + u32(timescale) + bytes(wide) + u16(0x55C4) + u16(0), version)
+    return full("mdhd", bytes(2 * wide) + u32(timescale) + duration.to_bytes(wide, "big") + u16(0x55C4) + u16(0), version)
 
 
 def elst(*edits, version=0):

@@ -44,6 +44,8 @@ def sound():
         stco=full("stco", row(1, 48, 49)), tkhd=full("tkhd", bytes(8) + u32(1) + bytes(80), flags=1))
     yield "version_1", clean(1, 3, 60), one(
         tkhd=tkhd(version=1), mdhd=mdhd(version=1), edts=hold("edts", elst((5, -1), (1 << 40, 0), version=1)))
+    # a duration that is not known, all ones, has no microseconds: its summary is refused, and nothing else
+    yield "duration_unknown", clean(1, 3, 60), one(mdhd=mdhd(version=1, duration=(1 << 64) - 1))
     yield "other_order", clean(1, 3, 60), FTYP + mdat(60) + hold("moov", hold(
         "trak", hold("mdia", hold("minf", hold("stbl", table("stco", [48]), stsz([10, 20, 30]), table("stsc", [(1, 3, 1)]),
                                               table("stts", [(3, 1)]), STSD), hold("dinf")), HDLR, mdhd()), tkhd()), MVHD)
