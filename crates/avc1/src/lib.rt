@@ -19,7 +19,7 @@ pub fn read(part: &[u8]) -> Found
 pub fn children(part: &[u8]) -> &[u8]
     ensures { λ r. ⌜ now r ≡ childrenOf (now (part .entry)) ⌝ }
 {
-    visual::children(part, KIND)
+    visual_parts::children(part, KIND)
 }
 
 // The first avcC among them, as the part of the entry where it lies; no bytes where there is none, or where a fault comes
@@ -27,12 +27,12 @@ pub fn children(part: &[u8]) -> &[u8]
 pub fn avcc(part: &[u8]) -> &[u8]
     ensures { λ r. ⌜ now r ≡ avccOf (now (part .entry)) ⌝ }
 {
-    let boxes = visual::children(part, KIND);
+    let boxes = visual_parts::children(part, KIND);
     boxparts::first_box(boxes, 0x61766343)
 }
 
 pub fn write(entry: Visual, children: &[u8], out: &mut [u8]) -> Put
     ensures { λ r. ⌜ wrote r (now (out .exit)) ≡ avc1In entry (now (children .entry)) (now (out .entry)) ⌝ }
 {
-    visual::write(entry, KIND, children, out)
+    visual_write::write(entry, KIND, children, out)
 }

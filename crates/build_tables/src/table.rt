@@ -70,13 +70,13 @@ pub(crate) fn stsc(records: &[u64], n: u32, timescale: u32, entries: &mut [u8], 
 }
 
 pub(crate) fn stsz(records: &[u64], n: u32, entries: &mut [u8], out: &mut [u8]) {
-    match builder::stsz::entries(records, n as usize, entries) {
+    match builder_stsz::entries(records, n as usize, entries) {
         Put::Refused(q) => say::refused(b"stsz", q),
         Put::Done(length) => {
             let stsz = Stsz {
                 version: 0,
                 flags: 0,
-                sample_size: builder::stsz::common(records, n as usize),
+                sample_size: builder_stsz::common(records, n as usize),
                 count: n,
             };
             let put = stsz::write(stsz, say::part(entries, 0, length), out);
@@ -125,7 +125,7 @@ pub(crate) fn stss(records: &[u64], n: u32, entries: &mut [u8], out: &mut [u8]) 
         say::absent(b"stss");
         return;
     }
-    match builder::stss::entries(records, n as usize, entries) {
+    match builder_stss::entries(records, n as usize, entries) {
         Put::Refused(q) => say::refused(b"stss", q),
         Put::Done(length) => {
             let stss = Stss {

@@ -4,8 +4,8 @@ ghost use mathlib.Core.Path.{_≡_};
 ghost use Rattle.put.specs.Put.{wrote};
 ghost use Rattle.builder.specs.Built.{cttsOf};
 use crate::pairs::built;
-use crate::pairs::refuse;
 use columns::Rule;
+use columns::refuse;
 use put::Put;
 
 // The entries of ctts for the first n records, and their length: 0 where the box is absent.

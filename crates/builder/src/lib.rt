@@ -2,6 +2,4 @@
 // (samples::put), and the entries are what the boxes' own writers take (stts::write, ..).
 pub mod ctts;
 mod pairs;
-pub mod stss;
-pub mod stsz;
 pub mod stts;

@@ -2,25 +2,14 @@
 ghost use mathlib.Core.Path.{_≡_};
 ghost use Prim.Native.Nat.{_^_, _<_};
 ghost use lib.ListN.{length};
-ghost use Rattle.numbers.specs.Field.{refusal};
 ghost use Rattle.put.specs.Put.{wrote};
-ghost use Rattle.put.specs.declared.Put.the-variants.{Refused};
 ghost use Rattle.merging.specs.Merging.{rowsOf};
 ghost use Rattle.columns.specs.Entries.{placedOf, Filled, Emitted};
 ghost use Rattle.builder.specs.Built.{pairsOf, runsOf};
+use columns::refuse;
 use merging::Open;
 use merging::Step;
-use numbers::Refusal;
 use put::Put;
-
-pub(crate) fn refuse(number: u32, detail: usize) -> Put
-    ensures { λ r. ⌜ r ≡ Refused (refusal number detail) ⌝ }
-{
-    Put::Refused(Refusal {
-        number: number,
-        detail: detail,
-    })
-}
 
 // The run that a step closed, if any, as the k-th number and the next; and the place after it.
 fn put_closed(out: &mut [u8], k: usize, step: Step) -> usize

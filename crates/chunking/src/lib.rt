@@ -3,12 +3,8 @@
 ghost use mathlib.Core.Path.{_≡_};
 ghost use Rattle.chunking.specs.Chunking.{piece, empty, alone, goesOn, stepOf, finishOf, openOf};
 ghost use Rattle.chunking.specs.Entries.{fitsIn};
-ghost use Rattle.numbers.specs.Field.{refusal};
-ghost use Rattle.put.specs.declared.Put.the-variants.{Refused};
 use columns::Rule;
 use merging::MOST;
-use numbers::Refusal;
-use put::Put;
 
 pub mod offsets;
 pub mod stsc;
@@ -121,15 +117,6 @@ pub(crate) fn after(step: Step) -> Chunk
         Step::Longer(chunk) => chunk,
         Step::Closed { chunk: _, open } => open,
     }
-}
-
-pub(crate) fn refuse(number: u32, detail: usize) -> Put
-    ensures { λ r. ⌜ r ≡ Refused (refusal number detail) ⌝ }
-{
-    Put::Refused(Refusal {
-        number: number,
-        detail: detail,
-    })
 }
 
 // Whether the sizes and the durations of the first n records have 32 bits.

@@ -7,10 +7,10 @@ ghost use Rattle.columns.specs.Entries.{Filled, Emitted};
 ghost use Rattle.chunking.specs.Chunking.{closedOf, chunksIn};
 ghost use Rattle.chunking.specs.Entries.{offsetWords, offsetsBy, anyWide, offsetsOf};
 use crate::Step;
-use crate::refuse;
 use columns::DURATION;
 use columns::OFFSET;
 use columns::SIZE;
+use columns::refuse;
 use put::Put;
 
 const NARROW: u64 = 0x1_0000_0000;

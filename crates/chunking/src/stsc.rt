@@ -8,10 +8,10 @@ ghost use Rattle.columns.specs.Entries.{Filled};
 ghost use Rattle.chunking.specs.Chunking.{closedOf};
 ghost use Rattle.chunking.specs.Entries.{Joined, Grouped, groupsIn, stscOf};
 use crate::Step;
-use crate::refuse;
 use columns::DURATION;
 use columns::OFFSET;
 use columns::SIZE;
+use columns::refuse;
 use merging::Open;
 use put::Put;
 

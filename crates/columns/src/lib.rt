@@ -4,8 +4,12 @@ ghost use mathlib.Core.Path.{_≡_};
 ghost use Prim.Native.Nat.{_*_};
 ghost use lib.ListN.{length};
 ghost use lib.Dec.{leb};
+ghost use Rattle.numbers.specs.Field.{refusal};
+ghost use Rattle.put.specs.declared.Put.the-variants.{Refused};
 ghost use Rattle.columns.specs.Columns.{meets, cellOf, lowAt, columnOf, allMeet};
 ghost use Rattle.columns.specs.Entries.{wordOf};
+use numbers::Refusal;
+use put::Put;
 use samples::RECORD;
 
 // The numbers of a record that tables are built from, by their place in it.
@@ -102,4 +106,14 @@ pub fn word(out: &mut [u8], k: usize, x: u32)
         return;
     }
     put::u32_at(out, k * 4, x);
+}
+
+// A builder's refusal.
+pub fn refuse(number: u32, detail: usize) -> Put
+    ensures { λ r. ⌜ r ≡ Refused (refusal number detail) ⌝ }
+{
+    Put::Refused(Refusal {
+        number: number,
+        detail: detail,
+    })
 }

@@ -1,10 +1,9 @@
 -- Worked examples of the definitions, computed. Assumes nothing.
 use mathlib.Core.Path.{_≡_, refl}
 use mathlib.Core.List.{[], _++_}
-use Prim.Native.Nat.{_+_}
 use Rattle.numbers.specs.Number.{be, bytes}
 use Rattle.numbers.specs.Field.{refusal, field, when}
-use Rattle.places.specs.Kinds.{edts, elst, dinf, dref, mvex, trex, traf, tfhd, tfdt, trun, moof, mfhd, mdat}
+use Rattle.places.specs.Kinds.{edts, elst, dinf, dref, mvex, trex, mdat}
 use Rattle.layout.specs.Rule.{ruleOf}
 use Rattle.layout.specs.Read.{one, decode}
 use Rattle.children.specs.Children.{rowOf, firstIn, wholeIn}
@@ -14,12 +13,8 @@ use Rattle.containers.specs.Dinf as dinf-is
 use Rattle.containers.specs.declared.dinf.Found.the-variants as dinf-found
 use Rattle.containers.specs.Edts as edts-is
 use Rattle.containers.specs.declared.edts.Found.the-variants as edts-found
-use Rattle.containers.specs.Moof as moof-is
-use Rattle.containers.specs.declared.moof.Found.the-variants as moof-found
 use Rattle.containers.specs.Mvex as mvex-is
 use Rattle.containers.specs.declared.mvex.Found.the-variants as mvex-found
-use Rattle.containers.specs.Traf as traf-is
-use Rattle.containers.specs.declared.traf.Found.the-variants as traf-found
 
 dinf-read : dinf-is.dinfOf (of dinf (of mdat [] ++ of dref [])) ≡ dinf-found.Is (record { dref = At 16 })
 unfolding be bytes field when ruleOf one decode rowOf firstIn wholeIn
@@ -46,18 +41,6 @@ edts-refused : edts-is.edtsOf (of edts (of elst [] ++ bytes 4 9 ++ bytes 4 mdat)
 unfolding be bytes field when ruleOf one decode rowOf firstIn wholeIn
 edts-refused = refl
 
-moof-read : moof-is.moofOf (of moof (of mdat [] ++ of mfhd [] ++ of traf [])) ≡ moof-found.Is (record { mfhd = At 16; traf = At 24 })
-unfolding be bytes field when ruleOf one decode rowOf firstIn wholeIn
-moof-read = refl
-
-moof-empty : moof-is.moofOf (of moof []) ≡ moof-found.Is (record { mfhd = Absent; traf = Absent })
-unfolding be bytes field when ruleOf one decode rowOf firstIn wholeIn
-moof-empty = refl
-
-moof-refused : moof-is.moofOf (of moof (of mfhd [] ++ bytes 4 9 ++ bytes 4 mdat)) ≡ moof-found.Refused (refusal 1 16)
-unfolding be bytes field when ruleOf one decode rowOf firstIn wholeIn
-moof-refused = refl
-
 mvex-read : mvex-is.mvexOf (of mvex (of mdat [] ++ of trex [])) ≡ mvex-found.Is (record { trex = At 16 })
 unfolding be bytes field when ruleOf one decode rowOf firstIn wholeIn
 mvex-read = refl
@@ -69,15 +52,3 @@ mvex-empty = refl
 mvex-refused : mvex-is.mvexOf (of mvex (of trex [] ++ bytes 4 9 ++ bytes 4 mdat)) ≡ mvex-found.Refused (refusal 1 16)
 unfolding be bytes field when ruleOf one decode rowOf firstIn wholeIn
 mvex-refused = refl
-
-traf-read : traf-is.trafOf (of traf (of mdat [] ++ of tfhd [] ++ of trun [])) ≡ traf-found.Is (record { tfhd = At 16; tfdt = Absent; trun = At 24 })
-unfolding be bytes field when ruleOf one decode rowOf firstIn wholeIn
-traf-read = refl
-
-traf-empty : traf-is.trafOf (of traf []) ≡ traf-found.Is (record { tfhd = Absent; tfdt = Absent; trun = Absent })
-unfolding be bytes field when ruleOf one decode rowOf firstIn wholeIn
-traf-empty = refl
-
-traf-refused : traf-is.trafOf (of traf (of tfhd [] ++ bytes 4 9 ++ bytes 4 mdat)) ≡ traf-found.Refused (refusal 1 16)
-unfolding be bytes field when ruleOf one decode rowOf firstIn wholeIn
-traf-refused = refl

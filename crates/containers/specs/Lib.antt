@@ -1,5 +1,3 @@
 pub mod Edts
 pub mod Dinf
 pub mod Mvex
-pub mod Traf
-pub mod Moof

@@ -1,6 +1,4 @@
 // Boxes whose whole content is boxes, and where the first child of each type lies in them.
 pub mod dinf;
 pub mod edts;
-pub mod moof;
 pub mod mvex;
-pub mod traf;

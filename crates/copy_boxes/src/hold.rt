@@ -64,9 +64,9 @@ fn mvex(part: &[u8], out: &mut [u8]) {
 }
 
 fn moof(part: &[u8], out: &mut [u8]) {
-    match containers::moof::read(part) {
-        containers::moof::Found::Refused(q) => say::refused(q),
-        containers::moof::Found::Is(b) => {
+    match moof::read(part) {
+        moof::Found::Refused(q) => say::refused(q),
+        moof::Found::Is(b) => {
             let mfhd = b.mfhd;
             place(mfhd);
             let traf = b.traf;
@@ -80,9 +80,9 @@ fn moof(part: &[u8], out: &mut [u8]) {
 }
 
 fn traf(part: &[u8], out: &mut [u8]) {
-    match containers::traf::read(part) {
-        containers::traf::Found::Refused(q) => say::refused(q),
-        containers::traf::Found::Is(b) => {
+    match traf::read(part) {
+        traf::Found::Refused(q) => say::refused(q),
+        traf::Found::Is(b) => {
             let tfhd = b.tfhd;
             place(tfhd);
             let tfdt = b.tfdt;

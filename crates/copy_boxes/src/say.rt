@@ -149,7 +149,7 @@ pub(crate) fn whole(row: [Field; 8]) -> [Field; 24] {
 
 // Whether a box that was read is as we write it, with so many bytes behind its fields.
 pub(crate) fn canonical(part: &[u8], kind: u32, row: [Field; 24], rest: usize) {
-    if layout::canonical::by(alone(part), kind, row, rest as u64) {
+    if canonical::by(alone(part), kind, row, rest as u64) {
         text(b" canonical");
     } else {
         text(b" other");

@@ -2,7 +2,6 @@
 use crate::say;
 use media::entries;
 use media::handlers;
-use media::profiles;
 use numbers::U8;
 use numbers::U32;
 
@@ -89,7 +88,7 @@ fn tell_word(kind: u32, n: u32) -> bool {
         return true;
     }
     if kind == INDEX {
-        say_byte(media::frequencies::index_of(n));
+        say_byte(audio::frequencies::index_of(n));
         return true;
     }
     false
@@ -97,15 +96,15 @@ fn tell_word(kind: u32, n: u32) -> bool {
 
 fn tell_byte(kind: u32, n: u8) -> bool {
     if kind == OBJECT {
-        say_byte(media::objects::object_type(n));
+        say_byte(audio::objects::object_type(n));
         return true;
     }
     if kind == FREQUENCY {
-        say_word(media::frequencies::frequency(n));
+        say_word(audio::frequencies::frequency(n));
         return true;
     }
     if kind == CHANNELS {
-        say_byte(media::channels::configuration(n));
+        say_byte(audio::channels::configuration(n));
         return true;
     }
     false

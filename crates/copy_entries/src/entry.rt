@@ -82,9 +82,9 @@ fn tx3g(part: &[u8], out: &mut [u8]) {
                 b.font_size,
             );
             bytes4(b.text_red, b.text_green, b.text_blue, b.text_alpha);
-            let rest = tx3g::rest(part);
+            let rest = tx3g_parts::rest(part);
             say::bytes(rest);
-            let put = tx3g::write(b, rest, out);
+            let put = tx3g_write::write(b, rest, out);
             say::written(put, part, out);
         }
     }
@@ -125,7 +125,7 @@ fn vpcc(part: &[u8], out: &mut [u8]) {
             );
             let data = vpcc::initialization(part);
             say::bytes(data);
-            let put = vpcc::write(b, data, out);
+            let put = vpcc_write::write(b, data, out);
             say::written(put, part, out);
         }
     }
@@ -159,9 +159,9 @@ fn visual(part: &[u8], kind: u32, out: &mut [u8]) {
             );
             say::eights(b.name0, b.name1, b.name2, b.name3);
             say::one(b.depth as u32);
-            let children = visual::children(part, kind);
+            let children = visual_parts::children(part, kind);
             say::bytes(children);
-            let put = visual::write(b, kind, children, out);
+            let put = visual_write::write(b, kind, children, out);
             say::written(put, part, out);
         }
     }

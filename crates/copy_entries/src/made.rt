@@ -63,10 +63,10 @@ fn sampled(frequency: u32, bitrate: u32, config: asc::Config, out: &mut [u8]) {
 }
 
 fn configured(bitrate: u32, object: u8, index: u8, configuration: u8, out: &mut [u8]) {
-    match media::frequencies::frequency(index) {
+    match audio::frequencies::frequency(index) {
         U32::Refused(q) => say::refused(q),
         U32::Is(frequency) => {
-            match media::channels::configuration(configuration) {
+            match audio::channels::configuration(configuration) {
                 U8::Refused(q) => say::refused(q),
                 U8::Is(c) => {
                     let config = asc::Config {
@@ -96,7 +96,7 @@ fn sound(part: &[u8], out: &mut [u8]) -> bool {
     let U8::Is(configuration) = numbers::u8_at(part, 14) else {
         return false;
     };
-    match media::objects::object_type(code) {
+    match audio::objects::object_type(code) {
         U8::Refused(q) => say::refused(q),
         U8::Is(object) => configured(bitrate, object, index, configuration, out),
     }
@@ -104,7 +104,7 @@ fn sound(part: &[u8], out: &mut [u8]) -> bool {
 }
 
 fn shown(entry: visual::Visual, kind: u32, child: &[u8], out: &mut [u8]) {
-    let put = visual::write(entry, kind, child, out);
+    let put = visual_write::write(entry, kind, child, out);
     say::made(put, out);
 }
 
@@ -171,7 +171,7 @@ fn vp9(part: &[u8], out: &mut [u8]) -> bool {
     };
     let entry = fresh::visual(width, height);
     let mut child = io::buffer();
-    match vpcc::write(fresh::vpcc(), &part[..0], &mut child) {
+    match vpcc_write::write(fresh::vpcc(), &part[..0], &mut child) {
         Put::Refused(q) => say::refused(q),
         Put::Done(n) => shown(entry, VP09, say::bytes_at(&child, 0, n), out),
     }
@@ -179,7 +179,7 @@ fn vp9(part: &[u8], out: &mut [u8]) -> bool {
 }
 
 fn text(part: &[u8], out: &mut [u8]) {
-    let put = tx3g::write(fresh::tx3g(), &part[..0], out);
+    let put = tx3g_write::write(fresh::tx3g(), &part[..0], out);
     say::made(put, out);
 }
 

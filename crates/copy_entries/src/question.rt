@@ -36,7 +36,7 @@ fn put_head(part: &[u8], out: &mut [u8]) {
     let U32::Is(length) = numbers::u32_at(part, 9) else {
         return;
     };
-    let put = descriptor::put_head(out, 0, tag, length);
+    let put = descriptor_write::put_head(out, 0, tag, length);
     say::made(put, out);
 }
 

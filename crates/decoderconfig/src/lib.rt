@@ -188,7 +188,7 @@ pub fn size(config: Config, info: &[u8]) -> U32
     }
     if config.has_info {
         let length = info.len() as u32;
-        let head = descriptor::length_size(length) as u32;
+        let head = descriptor_write::length_size(length) as u32;
         return U32::Is(14 + head + length);
     }
     U32::Is(13)

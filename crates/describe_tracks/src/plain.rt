@@ -1,11 +1,11 @@
 // What any track tells of itself.
 use crate::say;
+use language::Letters;
 use media::entries;
 use media::entries::Media;
 use media::handlers;
 use media::handlers::Kind;
 use track::Spoken;
-use types::language::Letters;
 
 // Letters are printed as they are; a byte that is no printable ASCII as '?'.
 fn letter(b: u8) -> u8 {

@@ -1,7 +1,7 @@
 // What an H.264 track tells: its profile, and some parameter sets of either list.
 use crate::say;
-use media::profiles::Profile;
-use media::profiles::Told;
+use profiles::Profile;
+use profiles::Told;
 use rows::Judged;
 
 fn profile_word(p: Profile) {

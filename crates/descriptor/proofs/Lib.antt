@@ -1,4 +1,4 @@
-mod Cases
+pub mod Cases
 pub mod Laws
 mod Unique
 mod Vectors

@@ -65,7 +65,7 @@ pub fn put(out: &mut [u8], at: usize, tag: u8, content: &[u8]) -> Put
         });
     }
     let length = content.len() as u32;
-    let head = descriptor::length_size(length) + 1;
+    let head = descriptor_write::length_size(length) + 1;
     let size = head + content.len();
     if 0xffff_ffff_ffff_ffff - size < at {
         return Put::Refused(Refusal {
@@ -80,7 +80,7 @@ pub fn put(out: &mut [u8], at: usize, tag: u8, content: &[u8]) -> Put
             detail: end,
         });
     }
-    descriptor::put_head(out, at, tag, length);
+    descriptor_write::put_head(out, at, tag, length);
     put::part(out, at + head, content);
     Put::Done(end)
 }

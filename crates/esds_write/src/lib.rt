@@ -44,7 +44,7 @@ fn decoder_size(decoder: Decoder, info: &[u8]) -> U32
                     detail: 0,
                 });
             }
-            U32::Is(descriptor::length_size(n) as u32 + 1 + n)
+            U32::Is(descriptor_write::length_size(n) as u32 + 1 + n)
         }
     }
 }
@@ -61,7 +61,7 @@ fn sl_size(there: bool, sl: &[u8]) -> U32
             });
         }
         let length = sl.len() as u32;
-        return U32::Is(descriptor::length_size(length) as u32 + 1 + length);
+        return U32::Is(descriptor_write::length_size(length) as u32 + 1 + length);
     }
     if sl.len() == 0 {
         return U32::Is(0);
@@ -84,8 +84,8 @@ fn put_decoder(out: &mut [u8], at: usize, decoder: Decoder, info: &[u8])
             let U32::Is(n) = decoderconfig::size(config, info) else {
                 return;
             };
-            let head = descriptor::length_size(n) + 1;
-            descriptor::put_head(out, at, 4, n);
+            let head = descriptor_write::length_size(n) + 1;
+            descriptor_write::put_head(out, at, 4, n);
             decoderconfig::put(out, at + head, config, info);
         }
     }
@@ -118,8 +118,8 @@ fn put_stream(
         × (12 + length (descriptorBytes 3 (contentBytes esds (now url) (now info) (now sl))) ≤ length (now out)) ⌝ }
     ensures { λ _. ⌜ now (out .exit) ≡ sets (now (out .entry)) 12 (descriptorBytes 3 (contentBytes esds (now (url .entry)) (now (info .entry)) (now (sl .entry)))) ⌝ }
 {
-    let at = 13 + descriptor::length_size(n);
-    descriptor::put_head(out, 12, 3, n);
+    let at = 13 + descriptor_write::length_size(n);
+    descriptor_write::put_head(out, 12, 3, n);
     esfields::put(out, at, esds.stream, url);
     let next = at + first;
     let decoder = esds.decoder;
@@ -167,7 +167,7 @@ pub fn write(esds: Esds, url: &[u8], info: &[u8], sl: &[u8], out: &mut [u8]) -> 
         });
     }
     let length = n as u32;
-    let total = 13 + descriptor::length_size(length) + n;
+    let total = 13 + descriptor_write::length_size(length) + n;
     if out.len() < total {
         return Put::Refused(Refusal {
             number: 12,

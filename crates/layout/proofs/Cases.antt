@@ -19,7 +19,7 @@ use Rattle.layout.specs.declared.Field.{Field}
 use Rattle.layout.specs.declared.Field.the-variants.{Number, Reserved, Wide, Optional, Least, Version, Flags, Nothing}
 use Rattle.layout.specs.declared.rule.Rule.{Rule}
 use Rattle.layout.specs.declared.read.Fields.{Fields}
-use Rattle.layout.specs.declared.write.Coded.{Coded}
+use Rattle.layout.specs.declared.Coded.{Coded}
 use Rattle.numbers.proofs.Laws.{pow-pos, length-bytes}
 use Rattle.boxes.specs.Header.{headerOf}
 use Rattle.boxes.specs.declared.header.Header.{Header}

@@ -18,7 +18,7 @@ use Rattle.boxes.specs.Header.{plainBytes, headerIn}
 use Rattle.numbers.proofs.Chain.{is-lt, not-lt}
 use Rattle.layout.specs.Read.{zeros}
 use Rattle.layout.specs.Write.{Made, made, bad, codedOf, full, place, placed}
-use Rattle.layout.specs.declared.write.Coded.{Coded}
+use Rattle.layout.specs.declared.Coded.{Coded}
 use Rattle.put.specs.declared.Put.{Put}
 use Rattle.put.specs.declared.Put.the-variants.{Done, Refused}
 use Rattle.numbers.proofs.Laws.{length-bytes}

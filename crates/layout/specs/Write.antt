@@ -14,7 +14,7 @@ use Rattle.layout.specs.Read.{zeros}
 use Rattle.layout.specs.declared.Field.{Field}
 use Rattle.layout.specs.declared.Field.the-variants.{Nothing}
 use Rattle.layout.specs.declared.rule.Rule.{Rule}
-use Rattle.layout.specs.declared.write.Coded.{Coded}
+use Rattle.layout.specs.declared.Coded.{Coded}
 
 -- the bytes, or that a value cannot be written
 pub data Made : Type 0 where

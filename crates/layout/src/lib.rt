@@ -1,9 +1,7 @@
-// A box as a row of fields: one reader and one writer for any row.
-pub mod canonical;
+// A box as a row of fields: one reader for any row. One writer for any row stands beside it (`layout_write`).
 pub mod read;
 pub mod rule;
 pub mod table;
-pub mod write;
 
 // What a box has at a place. Widths are in bytes, 8 at most.
 pub enum Field {
@@ -22,4 +20,11 @@ pub enum Field {
     // three bytes
     Flags,
     Nothing,
+}
+
+// The bytes of a row, unless a value can not be written.
+pub struct Coded {
+    pub ok: bool,
+    pub len: usize,
+    pub bytes: [u8; 192],
 }

@@ -66,7 +66,8 @@ fn is_set(flags: u64, bit: u32) -> bool
     flags / (bit as u64) % 2 == 1
 }
 
-pub(crate) fn rule_of(f: Field, version: u64, flags: u64) -> Rule
+// The rule of a field.
+pub fn rule_of(f: Field, version: u64, flags: u64) -> Rule
     ensures { λ r. ⌜ r ≡ ruleOf f version flags ⌝ }
 {
     match f {

@@ -67,7 +67,7 @@ fn has_sync(file: &[u8], track: Track, s: Sample) -> bool {
 
 // Whether the lookup has the same sample.
 fn looks_up(file: &[u8], track: Track, s: Sample) -> bool {
-    match lookup::sample(file, track, s.number) {
+    match locate::sample(file, track, s.number) {
         samples::Found::Is(t) => same(located(s), t) & has_sync(file, track, s),
         samples::Found::Refused(_) => false,
     }
@@ -126,7 +126,7 @@ fn print_sync(file: &[u8], track: Track, number: u32) {
 fn print_lookup(file: &[u8], track: Track, number: u32) {
     say::text(b"sample");
     say::next_number(number as u64);
-    match lookup::sample(file, track, number) {
+    match locate::sample(file, track, number) {
         samples::Found::Is(s) => print_fields(s),
         samples::Found::Refused(q) => {
             say::text(b"\t");

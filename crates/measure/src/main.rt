@@ -45,7 +45,7 @@ fn look(file: &[u8], track: Track) -> u64 {
     let mut number: u32 = 0;
     while number < SAMPLES {
         number += 1;
-        let samples::Found::Is(s) = lookup::sample(file, track, number) else {
+        let samples::Found::Is(s) = locate::sample(file, track, number) else {
             return mix;
         };
         mix = plus(mix, s.offset);

@@ -1,4 +1,3 @@
 pub mod Laws
-mod Frequency
 mod Vectors
 mod Unique

@@ -4,11 +4,6 @@ use Rattle.media.proofs.handlers.kind_of.Reads as kind-of
 use Rattle.media.proofs.handlers.letters_of.Reads as letters-of
 use Rattle.media.proofs.entries.media_of.Reads as media-of
 use Rattle.media.proofs.entries.entry_of.Reads as entry-of
-use Rattle.media.proofs.profiles.profile_of.Reads as profile-of
-use Rattle.media.proofs.objects.object_type.Reads as object-type
-use Rattle.media.proofs.frequencies.frequency.Reads as frequency
-use Rattle.media.proofs.frequencies.index_of.Reads as index-of
-use Rattle.media.proofs.channels.configuration.Reads as configuration
 
 kind-of-fixed : (κs : _) (a : _) (r q : _) (s t : _) → kind-of.Post κs a r s → kind-of.Post κs a q t → r ≡ q
 kind-of-fixed κs a r q s t p o = p ∙ sym o
@@ -21,18 +16,3 @@ media-of-fixed κs a r q s t p o = p ∙ sym o
 
 entry-of-fixed : (κs : _) (a : _) (r q : _) (s t : _) → entry-of.Post κs a r s → entry-of.Post κs a q t → r ≡ q
 entry-of-fixed κs a r q s t p o = p ∙ sym o
-
-profile-of-fixed : (κs : _) (a : _) (r q : _) (s t : _) → profile-of.Post κs a r s → profile-of.Post κs a q t → r ≡ q
-profile-of-fixed κs a r q s t p o = p ∙ sym o
-
-object-type-fixed : (κs : _) (a : _) (r q : _) (s t : _) → object-type.Post κs a r s → object-type.Post κs a q t → r ≡ q
-object-type-fixed κs a r q s t p o = p ∙ sym o
-
-frequency-fixed : (κs : _) (a : _) (r q : _) (s t : _) → frequency.Post κs a r s → frequency.Post κs a q t → r ≡ q
-frequency-fixed κs a r q s t p o = p ∙ sym o
-
-index-of-fixed : (κs : _) (a : _) (r q : _) (s t : _) → index-of.Post κs a r s → index-of.Post κs a q t → r ≡ q
-index-of-fixed κs a r q s t p o = p ∙ sym o
-
-configuration-fixed : (κs : _) (a : _) (r q : _) (s t : _) → configuration.Post κs a r s → configuration.Post κs a q t → r ≡ q
-configuration-fixed κs a r q s t p o = p ∙ sym o

@@ -6,13 +6,11 @@ ghost use mathlib.Core.List.{[], _∷_};
 ghost use lib.ListN.{length};
 ghost use lib.Seq.{sets};
 ghost use Rattle.columns.specs.Entries.{wordsOf};
-ghost use Rattle.numbers.specs.Field.{refusal};
 ghost use Rattle.put.specs.Put.{wrote};
-ghost use Rattle.put.specs.declared.Put.the-variants.{Refused};
 ghost use Rattle.sampletable.specs.SampleTable.{wideIn, listOf, perOf, kindOf, isThere, firstOf, secondOf, headOf, tableOf, tablesOf, stblOf, fitsIn, stblIn};
 ghost use Rattle.sampletable.specs.Inside.{entriesIn, toldBy, behindOf, beforeOf, Ready, Puts, HasRoom};
 use columns::Rule;
-use numbers::Refusal;
+use columns::refuse;
 use places::kinds;
 use put::Put;
 
@@ -26,15 +24,6 @@ pub enum Table {
     Stss,
 }
 
-fn refuse(number: u32, detail: usize) -> Put
-    ensures { λ r. ⌜ r ≡ Refused (refusal number detail) ⌝ }
-{
-    Put::Refused(Refusal {
-        number: number,
-        detail: detail,
-    })
-}
-
 // The entries of a table, by its builder.
 fn entries(table: Table, records: &[u64], n: usize, timescale: u32, out: &mut [u8]) -> Put
     ensures { λ r. ⌜ wrote r (now (out .exit)) ≡ entriesIn table timescale (now (records .entry)) n (now (out .entry)) ⌝ }
@@ -43,9 +32,9 @@ fn entries(table: Table, records: &[u64], n: usize, timescale: u32, out: &mut [u
         Table::Stts => builder::stts::entries(records, n, out),
         Table::Ctts => builder::ctts::entries(records, n, out),
         Table::Stsc => chunking::stsc::entries(records, n, timescale, out),
-        Table::Stsz => builder::stsz::entries(records, n, out),
+        Table::Stsz => builder_stsz::entries(records, n, out),
         Table::Offsets => chunking::offsets::entries(records, n, timescale, out),
-        Table::Stss => builder::stss::entries(records, n, out),
+        Table::Stss => builder_stss::entries(records, n, out),
     }
 }
 
@@ -110,7 +99,7 @@ fn first(table: Table, wide: bool, records: &[u64], n: usize, many: u32) -> u32
         Table::Stts => many / 2,
         Table::Ctts => many / 2,
         Table::Stsc => many / 3,
-        Table::Stsz => builder::stsz::common(records, n),
+        Table::Stsz => builder_stsz::common(records, n),
         Table::Offsets => {
             if wide {
                 return many / 2;

@@ -42,12 +42,12 @@ fn slots(values: [u64; 8]) -> [u64; 24]
 pub fn by(out: &mut [u8], kind: u32, row: [Field; 8], values: [u64; 8], tail: &[u8]) -> Put
     ensures { λ r. ⌜ wrote r (now (out .exit)) ≡ writeOf kind (padded row) (slotted values) (now (tail .entry)) (now (out .entry)) ⌝ }
 {
-    layout::write::by(out, kind, wide(row), slots(values), tail)
+    layout_write::by(out, kind, wide(row), slots(values), tail)
 }
 
 // A box with no tail.
 pub fn plain(out: &mut [u8], kind: u32, row: [Field; 8], values: [u64; 8]) -> Put
     ensures { λ r. ⌜ wrote r (now (out .exit)) ≡ writeOf kind (padded row) (slotted values) [] (now (out .entry)) ⌝ }
 {
-    layout::write::plain(out, kind, wide(row), slots(values))
+    layout_write::plain(out, kind, wide(row), slots(values))
 }

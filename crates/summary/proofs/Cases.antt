@@ -6,7 +6,7 @@ use Rattle.numbers.specs.declared.Refusal.{Refusal}
 use Rattle.numbers.specs.declared.U64.{U64}
 use Rattle.numbers.specs.declared.U64.the-variants as number
 use Rattle.numbers.proofs.Chain.{is-eq, is-ne}
-use Rattle.types.specs.Duration.{microsOf}
+use Rattle.duration.specs.Duration.{microsOf}
 use Rattle.summary.specs.Figures.{over, fixedOf, rateOf, summedBy, summedOf}
 use Rattle.summary.specs.declared.Summed.the-variants.{Is, Refused}
 

@@ -8,7 +8,7 @@ use lib.Ieee.{Float, binary64, round}
 use Rattle.numbers.specs.Field.{when}
 use Rattle.numbers.specs.declared.U64.{U64}
 use Rattle.numbers.specs.declared.U64.the-variants as number
-use Rattle.types.specs.Duration.{microsOf}
+use Rattle.duration.specs.Duration.{microsOf}
 use Rattle.summary.specs.declared.Summary.{Summary}
 use Rattle.summary.specs.declared.Summed.{Summed}
 use Rattle.summary.specs.declared.Summed.the-variants.{Is, Refused}

@@ -40,7 +40,7 @@ pub fn rate(count: u32, millis: u64) -> f64
 pub fn of(count: u32, duration: u64, timescale: u32, width: u32, height: u32) -> Summed
     ensures { λ r. ⌜ r ≡ summedOf count duration timescale width height ⌝ }
 {
-    match types::duration::micros(duration, timescale) {
+    match duration::micros(duration, timescale) {
         U64::Refused(q) => Summed::Refused(q),
         U64::Is(micros) => {
             let millis = micros / 1000;

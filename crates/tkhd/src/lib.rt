@@ -127,5 +127,5 @@ pub fn write(tkhd: Tkhd, out: &mut [u8]) -> Put
         0,
         0,
     ];
-    layout::write::plain(out, KIND, ROW, v)
+    layout_write::plain(out, KIND, ROW, v)
 }

@@ -5,7 +5,7 @@ use Prim.Native.Nat.{ℕ}
 use mathlib.Core.List.{List}
 use Rattle.numbers.specs.declared.U32.{U32}
 use Rattle.numbers.specs.declared.U32.the-variants as u32
-use Rattle.types.specs.Language.{lettersOf}
+use Rattle.language.specs.Language.{lettersOf}
 use Rattle.media.specs.Handlers as handlers
 use Rattle.media.specs.declared.handlers.Told as kind
 use Rattle.media.specs.declared.handlers.Told.the-variants as kind-is

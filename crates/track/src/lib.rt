@@ -2,12 +2,11 @@
 // refuses, at a position that is counted from that box's first byte; 8 for letters that are not known.
 ghost use mathlib.Core.Path.{_≡_};
 ghost use Rattle.track.specs.Track.{numberOf, timescaleOf, languageOf, kindOf, mediaOf, samplesOf};
+use language::Letters;
 use media::entries;
 use media::handlers;
 use numbers::Refusal;
 use numbers::U32;
-use types::language;
-use types::language::Letters;
 
 pub enum Spoken {
     Is(Letters),

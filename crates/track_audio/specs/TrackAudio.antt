@@ -10,9 +10,9 @@ use Rattle.numbers.specs.declared.U8.{U8}
 use Rattle.numbers.specs.declared.U8.the-variants as u8
 use Rattle.numbers.specs.declared.U32.{U32}
 use Rattle.numbers.specs.declared.U32.the-variants as u32
-use Rattle.media.specs.Objects.{objectType}
-use Rattle.media.specs.Frequencies as media
-use Rattle.media.specs.Channels.{configuration}
+use Rattle.audio.specs.Objects.{objectType}
+use Rattle.audio.specs.Frequencies as audio
+use Rattle.audio.specs.Channels.{configuration}
 use Rattle.places.specs.Kinds as kinds
 use Rattle.asc.specs.Config as asc
 use Rattle.asc.specs.declared.Found as config
@@ -64,7 +64,7 @@ profileOf t = profiled (configOf t)
 
 -- an index of 15 says that the frequency itself follows it (14496-3, table 1.18)
 abbrev pub rateOf : ℕ → ℕ → U32
-rateOf index told = when (eqb index 15) (u32.Is told) (media.frequencyOf index)
+rateOf index told = when (eqb index 15) (u32.Is told) (audio.frequencyOf index)
 
 abbrev pub sampled : config.Found → U32
 sampled (config-is.Is m) = rateOf (m .«frequency_index») (m .frequency)

@@ -3,9 +3,9 @@
 // refuse, at a position that is counted from the first byte of what each reads; 8 for a number that is not known.
 ghost use mathlib.Core.Path.{_≡_};
 ghost use Rattle.track_audio.specs.TrackAudio.{partOf, enteredOf, streamOf, configOf, profileOf, rateOf, frequencyOf, channelsOf, averageOf, bitrateOf};
+use audio::frequencies;
+use audio::objects;
 use esds::Decoder;
-use media::frequencies;
-use media::objects;
 use numbers::Refusal;
 use numbers::U8;
 use numbers::U32;
@@ -106,7 +106,7 @@ pub fn channels(trak: &[u8]) -> U8
 {
     match config(trak) {
         asc::Found::Refused(q) => U8::Refused(q),
-        asc::Found::Is(m) => media::channels::configuration(m.channels),
+        asc::Found::Is(m) => audio::channels::configuration(m.channels),
     }
 }
 

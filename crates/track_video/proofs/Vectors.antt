@@ -5,8 +5,8 @@ use Prim.Native.Nat.{ℕ}
 use lib.ListN.{replicate}
 use Rattle.numbers.specs.Number.{be, bytes}
 use Rattle.numbers.specs.Field.{refusal, field, when}
-use Rattle.media.specs.declared.profiles.Profile.the-variants.{ConstrainedBaseline, High}
-use Rattle.media.specs.declared.profiles.Told.the-variants as told
+use Rattle.profiles.specs.declared.Profile.the-variants.{ConstrainedBaseline, High}
+use Rattle.profiles.specs.declared.Told.the-variants as told
 use Rattle.places.specs.Kinds as kinds
 use Rattle.layout.specs.Rule.{ruleOf}
 use Rattle.layout.specs.Read.{one, decode}

@@ -7,9 +7,9 @@ use lib.Dec.{eqb, ltb}
 use Rattle.numbers.specs.Field.{refusal, when}
 use Rattle.numbers.specs.declared.U32.{U32}
 use Rattle.numbers.specs.declared.U32.the-variants as u32
-use Rattle.media.specs.Profiles as profiles
-use Rattle.media.specs.declared.profiles.Told.{Told}
-use Rattle.media.specs.declared.profiles.Told.the-variants as told
+use Rattle.profiles.specs.Profiles as profiles
+use Rattle.profiles.specs.declared.Told.{Told}
+use Rattle.profiles.specs.declared.Told.the-variants as told
 use Rattle.places.specs.Kinds as kinds
 use Rattle.rows.specs.declared.Judged.{Judged}
 use Rattle.rows.specs.declared.Judged.the-variants.{Fine, Wrong}

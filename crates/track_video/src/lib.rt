@@ -4,11 +4,10 @@
 // a parameter set that is not there.
 ghost use mathlib.Core.Path.{_≡_};
 ghost use Rattle.track_video.specs.TrackVideo.{partOf, enteredOf, configOf, profileOf, spsOf, ppsOf, hasSet, spsFault, ppsFault};
-use media::profiles;
-use media::profiles::Told;
 use numbers::Refusal;
 use numbers::U32;
 use places::kinds;
+use profiles::Told;
 use rows::Judged;
 
 // The avcC in the first sample entry; no bytes where there is none.

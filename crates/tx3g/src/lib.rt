@@ -2,11 +2,9 @@
 // table among them, to the box's end. The justifications and the four sides of the text's box are signed numbers there;
 // they are kept as their raw bits, in two's complement.
 ghost use mathlib.Core.Path.{_≡_};
-ghost use Rattle.put.specs.Put.{wrote};
-ghost use Rattle.tx3g.specs.Tx3g.{tx3gOf, boxesOf, tx3gIn};
+ghost use Rattle.tx3g.specs.Tx3g.{tx3gOf};
 use layout::Field;
 use numbers::Refusal;
-use put::Put;
 
 pub struct Tx3g {
     pub data_reference_index: u16,
@@ -100,43 +98,4 @@ pub fn read(part: &[u8]) -> Found
         text_blue: v[19] as u8,
         text_alpha: v[20] as u8,
     })
-}
-
-// The boxes behind the fields, as the part of the box where they lie; no bytes where the box is refused.
-pub fn rest(part: &[u8]) -> &[u8]
-    ensures { λ r. ⌜ now r ≡ boxesOf (now (part .entry)) ⌝ }
-{
-    layout::read::rest(part, KIND, ROW)
-}
-
-pub fn write(tx3g: Tx3g, rest: &[u8], out: &mut [u8]) -> Put
-    ensures { λ r. ⌜ wrote r (now (out .exit)) ≡ tx3gIn tx3g (now (rest .entry)) (now (out .entry)) ⌝ }
-{
-    let v = [
-        tx3g.data_reference_index as u64,
-        tx3g.display_flags as u64,
-        tx3g.horizontal_justification as u64,
-        tx3g.vertical_justification as u64,
-        tx3g.background_red as u64,
-        tx3g.background_green as u64,
-        tx3g.background_blue as u64,
-        tx3g.background_alpha as u64,
-        tx3g.top as u64,
-        tx3g.left as u64,
-        tx3g.bottom as u64,
-        tx3g.right as u64,
-        tx3g.start_char as u64,
-        tx3g.end_char as u64,
-        tx3g.font_id as u64,
-        tx3g.face_style_flags as u64,
-        tx3g.font_size as u64,
-        tx3g.text_red as u64,
-        tx3g.text_green as u64,
-        tx3g.text_blue as u64,
-        tx3g.text_alpha as u64,
-        0,
-        0,
-        0,
-    ];
-    layout::write::by(out, KIND, ROW, v, rest)
 }

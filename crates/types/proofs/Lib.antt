@@ -1,5 +1,4 @@
 pub mod Laws
-pub mod LanguageLaws
 mod Signs
 mod Vectors
 mod Unique

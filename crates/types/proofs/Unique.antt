@@ -8,9 +8,6 @@ use Rattle.types.proofs.fixed.raw_signed8.Reads as raw-signed8
 use Rattle.types.proofs.fixed.whole_signed8.Reads as whole-signed8
 use Rattle.types.proofs.letters.number_of.Reads as number-of
 use Rattle.types.proofs.letters.of_number.Reads as of-number
-use Rattle.types.proofs.duration.micros.Reads as micros
-use Rattle.types.proofs.language.of_code.Reads as of-code
-use Rattle.types.proofs.language.code_of.Reads as code-of
 
 raw8-fixed : (κs : _) (a : _) (r q : _) (s t : _) → raw8.Post κs a r s → raw8.Post κs a q t → r ≡ q
 raw8-fixed κs a r q s t p o = p ∙ sym o
@@ -35,12 +32,3 @@ number-of-fixed κs a r q s t p o = p ∙ sym o
 
 of-number-fixed : (κs : _) (a : _) (r q : _) (s t : _) → of-number.Post κs a r s → of-number.Post κs a q t → r ≡ q
 of-number-fixed κs a r q s t p o = p ∙ sym o
-
-micros-fixed : (κs : _) (a : _) (r q : _) (s t : _) → micros.Post κs a r s → micros.Post κs a q t → r ≡ q
-micros-fixed κs a r q s t p o = p ∙ sym o
-
-of-code-fixed : (κs : _) (a : _) (r q : _) (s t : _) → of-code.Post κs a r s → of-code.Post κs a q t → r ≡ q
-of-code-fixed κs a r q s t p o = p ∙ sym o
-
-code-of-fixed : (κs : _) (a : _) (r q : _) (s t : _) → code-of.Post κs a r s → code-of.Post κs a q t → r ≡ q
-code-of-fixed κs a r q s t p o = p ∙ sym o

@@ -1,3 +1,1 @@
 pub mod Fixed
-pub mod Duration
-pub mod Language

@@ -2,11 +2,9 @@
 // size of the picture, its resolutions as raw 16.16, how many frames a sample has, the 32 bytes of the compressor's name as
 // four numbers, and the depth. Behind them its boxes, to the entry's end. What is predefined or reserved is passed over.
 ghost use mathlib.Core.Path.{_≡_};
-ghost use Rattle.put.specs.Put.{wrote};
-ghost use Rattle.visual.specs.Visual.{visualOf, childrenOf, visualIn};
+ghost use Rattle.visual.specs.Visual.{visualOf};
 use layout::Field;
 use numbers::Refusal;
-use put::Put;
 
 pub struct Visual {
     pub data_reference_index: u16,
@@ -78,43 +76,4 @@ pub fn read(part: &[u8], kind: u32) -> Found
         name3: v[9],
         depth: v[10] as u16,
     })
-}
-
-// The boxes behind the fields, as the part of the entry where they lie; no bytes where the entry is refused.
-pub fn children(part: &[u8], kind: u32) -> &[u8]
-    ensures { λ r. ⌜ now r ≡ childrenOf kind (now (part .entry)) ⌝ }
-{
-    layout::read::rest(part, kind, ROW)
-}
-
-pub fn write(visual: Visual, kind: u32, children: &[u8], out: &mut [u8]) -> Put
-    ensures { λ r. ⌜ wrote r (now (out .exit)) ≡ visualIn kind visual (now (children .entry)) (now (out .entry)) ⌝ }
-{
-    let v = [
-        visual.data_reference_index as u64,
-        visual.width as u64,
-        visual.height as u64,
-        visual.horizresolution as u64,
-        visual.vertresolution as u64,
-        visual.frame_count as u64,
-        visual.name0,
-        visual.name1,
-        visual.name2,
-        visual.name3,
-        visual.depth as u64,
-        0,
-        0,
-        0,
-        0,
-        0,
-        0,
-        0,
-        0,
-        0,
-        0,
-        0,
-        0,
-        0,
-    ];
-    layout::write::by(out, kind, ROW, v, children)
 }

@@ -4,13 +4,9 @@ use mathlib.Core.Path.{_≡_, sym, _∙_}
 use denote.Ref.{now}
 use Rattle.vpcc.proofs.read.Reads as vpcc-read
 use Rattle.vpcc.proofs.initialization.Reads as vpcc-initial
-use Rattle.vpcc.proofs.write.Reads as vpcc-write
 
 vpcc-read-fixed : (κs : _) (a : _) (r q : _) (s t : _) → vpcc-read.Post κs a r s → vpcc-read.Post κs a q t → r ≡ q
 vpcc-read-fixed κs a r q s t p o = p ∙ sym o
 
 vpcc-initial-fixed : (κs : _) (a : _) (r q : _) (s t : _) → vpcc-initial.Post κs a r s → vpcc-initial.Post κs a q t → now r ≡ now q
 vpcc-initial-fixed κs a r q s t p o = p ∙ sym o
-
-vpcc-write-fixed : (κs : _) (a : _) (r q : _) (s t : _) → vpcc-write.Post κs a r s → vpcc-write.Post κs a q t → (r ≡ q) × (now (s .1 .1 .0) ≡ now (t .1 .1 .0))
-vpcc-write-fixed κs a r q s t p o = (cc, cc)

@@ -2,12 +2,10 @@
 // chroma subsampling and range in one byte, three codes of its colours, and the data that the codec begins with: a size in
 // bytes, and as many bytes.
 ghost use mathlib.Core.Path.{_≡_};
-ghost use Rattle.put.specs.Put.{wrote};
-ghost use Rattle.vpcc.specs.Vpcc.{vpccOf, initializationOf, vpccIn};
+ghost use Rattle.vpcc.specs.Vpcc.{vpccOf, initializationOf};
 use layout::Field;
 use layout::table::Cut;
 use numbers::Refusal;
-use put::Put;
 
 pub struct Vpcc {
     pub version: u8,
@@ -102,44 +100,4 @@ pub fn initialization(part: &[u8]) -> &[u8]
         }
         Found::Refused(_) => &part[..0],
     }
-}
-
-// 13 where the initialization data are not as many as their size says.
-pub fn write(vpcc: Vpcc, initialization: &[u8], out: &mut [u8]) -> Put
-    ensures { λ r. ⌜ wrote r (now (out .exit)) ≡ vpccIn vpcc (now (initialization .entry)) (now (out .entry)) ⌝ }
-{
-    let size = vpcc.codec_initialization_data_size as u64;
-    if initialization.len() as u64 != size {
-        return Put::Refused(Refusal {
-            number: 13,
-            detail: 0,
-        });
-    }
-    let v = [
-        vpcc.version as u64,
-        vpcc.flags as u64,
-        vpcc.profile as u64,
-        vpcc.level as u64,
-        vpcc.sampling as u64,
-        vpcc.colour_primaries as u64,
-        vpcc.transfer_characteristics as u64,
-        vpcc.matrix_coefficients as u64,
-        vpcc.codec_initialization_data_size as u64,
-        0,
-        0,
-        0,
-        0,
-        0,
-        0,
-        0,
-        0,
-        0,
-        0,
-        0,
-        0,
-        0,
-        0,
-        0,
-    ];
-    layout::write::by(out, KIND, ROW, v, initialization)
 }

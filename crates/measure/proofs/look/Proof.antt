@@ -3,7 +3,7 @@ use native.Mathlib.Omega.{arith}
 use borrow.Author.Needs.{needs}
 use Rattle.measure.proofs.look.Statement.{statement}
 use Rattle.measure.proofs.look.Tie as tie
-use Rattle.lookup.proofs.sample.Reads as sample-reads
+use Rattle.locate.proofs.sample.Reads as sample-reads
 use Rattle.measure.proofs.negative.Reads as negative-reads
 use Rattle.measure.proofs.plus.Reads as plus-reads
 

@@ -1,0 +1,4 @@
+pub mod Laws
+mod Frequency
+mod Vectors
+mod Unique

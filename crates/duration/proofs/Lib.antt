@@ -1,0 +1,2 @@
+mod Vectors
+mod Unique

@@ -1,0 +1,3 @@
+pub mod LanguageLaws
+mod Vectors
+mod Unique
