@@ -55,7 +55,7 @@ pub(crate) fn ctts(records: &[u64], n: u32, entries: &mut [u8], out: &mut [u8]) 
 }
 
 pub(crate) fn stsc(records: &[u64], n: u32, timescale: u32, entries: &mut [u8], out: &mut [u8]) {
-    match chunking::stsc::entries(records, n as usize, timescale, entries) {
+    match chunking_stsc::entries(records, n as usize, timescale, entries) {
         Put::Refused(q) => say::refused(b"stsc", q),
         Put::Done(length) => {
             let stsc = Stsc {
@@ -107,10 +107,10 @@ fn co64(entries: &[u8], out: &mut [u8]) {
 
 // A refusal is told of stco: it comes before the two are told apart.
 pub(crate) fn offsets(records: &[u64], n: u32, timescale: u32, entries: &mut [u8], out: &mut [u8]) {
-    match chunking::offsets::entries(records, n as usize, timescale, entries) {
+    match chunking_offsets::entries(records, n as usize, timescale, entries) {
         Put::Refused(q) => say::refused(b"stco", q),
         Put::Done(length) => {
-            if chunking::offsets::wide(records, n as usize, timescale) {
+            if chunking_offsets::wide(records, n as usize, timescale) {
                 co64(say::part(entries, 0, length), out);
             } else {
                 stco(say::part(entries, 0, length), out);

@@ -24,7 +24,7 @@ use Rattle.columns.specs.Entries.{wordOf, emitOf, Emitted}
 use Rattle.chunking.specs.declared.Chunk.{Chunk}
 use Rattle.chunking.specs.declared.Step as chunk
 use Rattle.chunking.specs.declared.Step.the-variants.{Longer, Closed}
-use Rattle.chunking.specs.declared.stsc.Group.{Group}
+use Rattle.chunking.specs.declared.Group.{Group}
 use Rattle.chunking.specs.Chunking.{Piece, empty, alone, joined, goesOn, stepOf, finishOf, closedOf, openOf}
 use Rattle.chunking.specs.Entries.{fitsIn, offsetWords, offsetsBy, anyWide, countsOf, groupWords, closedRows, openAfter, Rowed, Joined, Grouped}
 

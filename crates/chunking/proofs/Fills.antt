@@ -22,7 +22,7 @@ use Rattle.columns.proofs.Written.{Writing, begins, emitted, ends}
 use Rattle.chunking.specs.declared.Chunk.{Chunk}
 use Rattle.chunking.specs.declared.Step.{Step}
 use Rattle.chunking.specs.declared.Step.the-variants.{Longer, Closed}
-use Rattle.chunking.specs.declared.stsc.Group.{Group}
+use Rattle.chunking.specs.declared.Group.{Group}
 use Rattle.chunking.specs.Chunking.{Piece, piece, pieceAt, empty, stepOf, finishOf, closedOf, openOf, chunksFrom, chunksIn}
 use Rattle.chunking.specs.Entries.{offsetWords, offsetsBy, anyWide, countsOf, groupWords, groupsIn, closedRows, openAfter, Joined, Grouped}
 

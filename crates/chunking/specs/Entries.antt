@@ -18,7 +18,7 @@ use Rattle.columns.specs.declared.Rule.the-variants.{Narrow}
 use Rattle.columns.specs.Entries.{builtOf, Emitted}
 use Rattle.chunking.specs.Chunking.{chunksIn}
 use Rattle.chunking.specs.declared.Chunk.{Chunk}
-use Rattle.chunking.specs.declared.stsc.Group.{Group}
+use Rattle.chunking.specs.declared.Group.{Group}
 
 -- sizes and durations have 32 bits
 unfoldable pub fitsIn : List ℕ → ℕ → Bool

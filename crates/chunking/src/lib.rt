@@ -5,9 +5,7 @@ ghost use Rattle.chunking.specs.Chunking.{piece, empty, alone, goesOn, s
 ghost use Rattle.chunking.specs.Entries.{fitsIn};
 use columns::Rule;
 use merging::MOST;
-
-pub mod offsets;
-pub mod stsc;
+use merging::Open;
 
 // The samples that are in a chunk: where the first lies, how many there are, how long they last, and where the last one
 // lies and its size. A chunk that counts 0 has none yet.
@@ -25,6 +23,13 @@ pub enum Step {
     Closed { chunk: Chunk, open: Chunk },
 }
 
+// For stsc: the chunks of the open run, the number of its first chunk, and how many numbers were put.
+pub struct Group {
+    pub run: Open,
+    pub first: u64,
+    pub k: usize,
+}
+
 // A chunk of one sample.
 fn only(offset: u64, size: u32, duration: u32) -> Chunk
     ensures { λ r. ⌜ r ≡ alone (piece offset size duration) ⌝ }
@@ -39,7 +44,7 @@ fn only(offset: u64, size: u32, duration: u32) -> Chunk
 }
 
 // The chunk before the first sample.
-pub(crate) fn none() -> Chunk
+pub fn none() -> Chunk
     ensures { λ r. ⌜ r ≡ empty ⌝ }
 {
     Chunk {
@@ -72,7 +77,7 @@ fn joins(chunk: Chunk, timescale: u32, offset: u64) -> bool
 }
 
 // The chunk, and one more sample.
-pub(crate) fn next(chunk: Chunk, timescale: u32, offset: u64, size: u32, duration: u32) -> Step
+pub fn next(chunk: Chunk, timescale: u32, offset: u64, size: u32, duration: u32) -> Step
     ensures { λ r. ⌜ r ≡ stepOf timescale chunk (piece offset size duration) ⌝ }
 {
     let count = chunk.count;
@@ -96,7 +101,7 @@ pub(crate) fn next(chunk: Chunk, timescale: u32, offset: u64, size: u32, duratio
 }
 
 // The chunk after the last sample: closed, where it counts any.
-pub(crate) fn finish(chunk: Chunk) -> Step
+pub fn finish(chunk: Chunk) -> Step
     ensures { λ r. ⌜ r ≡ finishOf chunk ⌝ }
 {
     let count = chunk.count;
@@ -110,7 +115,7 @@ pub(crate) fn finish(chunk: Chunk) -> Step
 }
 
 // The chunk that is open after a step.
-pub(crate) fn after(step: Step) -> Chunk
+pub fn after(step: Step) -> Chunk
     ensures { λ r. ⌜ r ≡ openOf step ⌝ }
 {
     match step {
@@ -120,7 +125,7 @@ pub(crate) fn after(step: Step) -> Chunk
 }
 
 // Whether the sizes and the durations of the first n records have 32 bits.
-pub(crate) fn fit(records: &[u64], n: usize) -> bool
+pub fn fit(records: &[u64], n: usize) -> bool
     ensures { λ r. ⌜ r ≡ fitsIn (now (records .entry)) n ⌝ }
 {
     if !columns::all_right(records, n, columns::SIZE, Rule::Narrow) {

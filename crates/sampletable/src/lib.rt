@@ -31,9 +31,9 @@ fn entries(table: Table, records: &[u64], n: usize, timescale: u32, out: &mut [u
     match table {
         Table::Stts => builder::stts::entries(records, n, out),
         Table::Ctts => builder::ctts::entries(records, n, out),
-        Table::Stsc => chunking::stsc::entries(records, n, timescale, out),
+        Table::Stsc => chunking_stsc::entries(records, n, timescale, out),
         Table::Stsz => builder_stsz::entries(records, n, out),
-        Table::Offsets => chunking::offsets::entries(records, n, timescale, out),
+        Table::Offsets => chunking_offsets::entries(records, n, timescale, out),
         Table::Stss => builder_stss::entries(records, n, out),
     }
 }
@@ -173,7 +173,7 @@ fn put_before(
     requires { ⌜ (n < 2 ^ 32) × (bytes ≡ length (listOf table timescale (now records) n) * 4) × (at + (20 + bytes) < 2 ^ 33) × (16 + behindOf table + bytes < 2 ^ 32) × (at + (16 + behindOf table) ≤ length (now out)) × (at + (16 + behindOf table) < 2 ^ 32) ⌝ }
     ensures { λ r. ⌜ Puts (beforeOf table timescale (now (records .entry)) n) (now (out .entry)) at (now (out .exit)) r ⌝ }
 {
-    let wide = chunking::offsets::wide(records, n, timescale);
+    let wide = chunking_offsets::wide(records, n, timescale);
     let more = behind(table);
     let total = (16 + more + bytes) as u32;
     let many = (bytes / 4) as u32;
