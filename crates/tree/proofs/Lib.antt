@@ -3,6 +3,6 @@ pub mod Walks
 pub mod Forests
 pub mod Order
 pub mod Columns
-mod All
+pub mod All
 mod Unique
 mod Vectors

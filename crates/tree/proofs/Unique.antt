@@ -2,16 +2,10 @@
 -- Assumes nothing.
 use mathlib.Core.Path.{_≡_}
 use denote.Ref.{now}
-use Rattle.tree.specs.Tables.{Tables, tables}
+use Rattle.tree.specs.Tables.{tables}
 use Rattle.tree.proofs.scan.Reads as scan
-use Rattle.tree.proofs.tree.Reads as tree
 
 scan-fixed : (κs : _) (a : _) (r q : _) (s t : _) → scan.Post κs a r s → scan.Post κs a q t → (r ≡ q)
     × (tables (now (s .1 .0)) (now (s .1 .1 .0)) (now (s .1 .1 .1 .0)) (now (s .1 .1 .1 .1 .0)) (now (s .1 .1 .1 .1 .1 .0)) (now (s .1 .1 .1 .1 .1 .1 .0))
     ≡ tables (now (t .1 .0)) (now (t .1 .1 .0)) (now (t .1 .1 .1 .0)) (now (t .1 .1 .1 .1 .0)) (now (t .1 .1 .1 .1 .1 .0)) (now (t .1 .1 .1 .1 .1 .1 .0)))
 scan-fixed κs a r q s t p o = (cc, cc)
-
-tree-fixed : (κs : _) (a : _) (r q : _) (s t : _) → tree.Post κs a r s → tree.Post κs a q t → (r ≡ q)
-    × (tables (now (s .1 .0)) (now (s .1 .1 .0)) (now (s .1 .1 .1 .0)) (now (s .1 .1 .1 .1 .0)) (now (s .1 .1 .1 .1 .1 .0)) (now (s .1 .1 .1 .1 .1 .1 .0))
-    ≡ tables (now (t .1 .0)) (now (t .1 .1 .0)) (now (t .1 .1 .1 .0)) (now (t .1 .1 .1 .1 .0)) (now (t .1 .1 .1 .1 .1 .0)) (now (t .1 .1 .1 .1 .1 .1 .0)))
-tree-fixed κs a r q s t p o = (cc, cc)

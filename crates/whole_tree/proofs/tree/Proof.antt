@@ -1,8 +1,8 @@
 use Rattle.tree.specs.Tables.{tables}
 use Rattle.tree.proofs.All.{refused, asks-a, asks-b, asks-c, asks-d, asks-e, asks-f, all}
 use borrow.Author.Needs.{needs}
-use Rattle.tree.proofs.tree.Statement.{statement}
-use Rattle.tree.proofs.tree.Tie as tie
+use Rattle.whole_tree.proofs.tree.Statement.{statement}
+use Rattle.whole_tree.proofs.tree.Tie as tie
 
 scan-requires : tie.Need-scan-requires
 scan-requires c κs = search needs

@@ -5,9 +5,9 @@ use native.Mathlib.Omega.{arith}
 use borrow.Author.Needs.{needs}
 use lib.ListN.{take, drop}
 use lib.Seq.{sets}
 use Rattle.tree.proofs.Columns.{copied, all-copied}
-use Rattle.tree.proofs.copy.Statement.{statement}
-use Rattle.tree.proofs.copy.Tie as tie
+use Rattle.whole_tree.proofs.copy.Statement.{statement}
+use Rattle.whole_tree.proofs.copy.Tie as tie
 
 abbrev Inv-loop : tie.InvT-loop
 Inv-loop n from to₀ i₀ to i = sets to i (take (n - i) (drop i from)) ≡ sets to₀ 0 (take n from)
