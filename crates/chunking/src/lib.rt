@@ -104,8 +104,8 @@ pub fn next(chunk: Chunk, timescale: u32, offset: u64, size: u32, duration: u32)
 pub fn finish(chunk: Chunk) -> Step
     ensures { λ r. ⌜ r ≡ finishOf chunk ⌝ }
 {
-    let count = chunk.count;
-    if count == 0 {
+    let counted = chunk.count;
+    if counted == 0 {
         return Step::Longer(none());
     }
     Step::Closed {
