@@ -31,7 +31,7 @@ fn emsg(part: &[u8], out: &mut [u8]) {
             say::bytes(value);
             say::bytes(message);
             say::canonical(part, emsg::KIND, say::whole(emsg::ROW), behind(p.end));
-            let put = emsg::write(b, scheme, value, message, out);
+            let put = emsg_write::write(b, scheme, value, message, out);
             say::written(put, part, out);
         }
     }

@@ -11,12 +11,13 @@ use Rattle.numbers.specs.Number.{be, bytes}
 use Rattle.numbers.proofs.Laws.{be-bytes, length-bytes}
 use Rattle.numbers.proofs.Chain as chain
 use Rattle.numbers.proofs.Chain.{is-eq, is-ne}
-use Rattle.emsg.specs.Emsg.{textAt, textEnd, firstOf, secondOf, stringsOf, numbersOf, emsg, places, afterStrings, numbersLast, afterNumbers, stringsLast, contentOf, span, whole, stringBytes, numberBytes, laid}
+use Rattle.strings.specs.Text.{textAt, textEnd}
+use Rattle.emsg.specs.Emsg.{firstOf, secondOf, stringsOf, numbersOf, emsg, places, afterStrings, numbersLast, afterNumbers, stringsLast, contentOf, span, whole, stringBytes, numberBytes, laid}
 use Rattle.emsg.specs.declared.Emsg.{Emsg}
 use Rattle.emsg.specs.declared.Places.{Places}
 use Rattle.emsg.specs.declared.Found.the-variants.{Is}
-use Rattle.emsg.specs.declared.Text.{Text}
-use Rattle.emsg.specs.declared.Text.the-variants.{End, Cut}
+use Rattle.strings.specs.declared.Text.{Text}
+use Rattle.strings.specs.declared.Text.the-variants.{End, Cut}
 use Rattle.emsg.specs.declared.Strings.the-variants as strings
 use Rattle.emsg.specs.declared.Numbers.the-variants as numbers
 use Rattle.emsg.proofs.Texts.{joined}

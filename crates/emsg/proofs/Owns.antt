@@ -11,10 +11,11 @@ use borrow.Author.Tests.{lt-ltb}
 use Rattle.numbers.specs.Number.{bytes}
 use Rattle.numbers.proofs.Laws.{Bytes, be-below}
 use Rattle.rounds.proofs.Round.{grown}
-use Rattle.emsg.specs.Emsg.{textAt, emsg, span, whole, wide, sound, stringBytes, numberBytes, laid}
+use Rattle.strings.specs.Text.{textAt}
+use Rattle.emsg.specs.Emsg.{emsg, span, whole, wide, sound, stringBytes, numberBytes, laid}
 use Rattle.emsg.specs.declared.Emsg.{Emsg}
 use Rattle.emsg.specs.declared.Places.{Places}
-use Rattle.emsg.specs.declared.Text.the-variants.{End}
+use Rattle.strings.specs.declared.Text.the-variants.{End}
 use Rattle.emsg.proofs.Texts.{ended, Both}
 use Rattle.emsg.proofs.FourNumbers.{Four}
 use Rattle.emsg.proofs.Contents.{Early, Late}

@@ -26,7 +26,8 @@ use Rattle.layout.specs.Write.{Made, made, bad, after, lay, encode, full, place
 use Rattle.layout.specs.declared.Field.the-variants.{Version, Flags}
 use Rattle.layout.specs.declared.rule.Rule.{Rule}
 use Rattle.layout.proofs.Writes.{length-full, headed, parted}
-use Rattle.emsg.specs.Emsg.{kind, fields, wide, whole, textAt, has, sound, stringBytes, numberBytes, laid, emsgIn}
+use Rattle.strings.specs.Text.{textAt}
+use Rattle.emsg.specs.Emsg.{kind, fields, wide, whole, has, sound, stringBytes, numberBytes, laid, emsgIn}
 use Rattle.emsg.specs.declared.Emsg.{Emsg}
 
 -- THE TIME'S WIDTH

@@ -4,34 +4,16 @@ use mathlib.Core.List.{List, [], _∷_, _++_}
 use mathlib.Core.Bool.{Bool, true, false}
 use Prim.Native.Nat.{ℕ, suc, _+_, _-_, _≤_, _<_}
 use native.Mathlib.Nat.{add-zero}
-use native.Mathlib.Numerals.{add-one}
 use native.Mathlib.Omega.{arith}
-use lib.ListN.{length, getD, take, drop, length-drop, drop-of-length-le}
-use lib.Seq.{drop-cons}
+use lib.ListN.{length, take, drop, length-drop}
 use lib.Dec.{eqb}
-use borrow.Author.Tests.{eq-eqb, ne-eqb, eqb-true}
+use borrow.Author.Tests.{eqb-true}
 use Rattle.numbers.specs.Field.{when}
-use Rattle.emsg.specs.Emsg.{textEnd, textAt, firstOf, secondOf, stringsOf}
-use Rattle.emsg.specs.declared.Text.{Text}
-use Rattle.emsg.specs.declared.Text.the-variants.{End, Cut}
+use Rattle.strings.specs.Text.{textEnd, textAt}
+use Rattle.emsg.specs.Emsg.{firstOf, secondOf, stringsOf}
+use Rattle.strings.specs.declared.Text.{Text}
+use Rattle.strings.specs.declared.Text.the-variants.{End, Cut}
 use Rattle.emsg.specs.declared.Strings.the-variants as strings
-
--- THE SEARCH FOR THE 0
-
-pub here : (b : List ℕ) (i : ℕ) → i < length b → getD b i 0 ≡ 0 → End i ≡ textAt b i
-unfolding textEnd when
-here b i h e =
-    sym (ap (λ t. when t (End i) (textEnd (drop (suc i) b) (suc i))) (eq-eqb (getD b i 0) 0 e)) ∙ sym (ap (λ s. textEnd s i) (drop-cons b i 0 h))
-
-pub not-here : (b : List ℕ) (i : ℕ) → i < length b → (getD b i 0 ≡ 0 → ⊥) → textAt b (i + 1) ≡ textAt b i
-unfolding textEnd when
-not-here b i h e =
-    ap (textAt b) (add-one i)
-    ∙ sym (ap (λ t. when t (End i) (textEnd (drop (suc i) b) (suc i))) (ne-eqb (getD b i 0) 0 e)) ∙ sym (ap (λ s. textEnd s i) (drop-cons b i 0 h))
-
-pub nowhere : (b : List ℕ) (i : ℕ) → length b ≤ i → Cut ≡ textAt b i
-unfolding textEnd
-nowhere b i h = sym (ap (λ s. textEnd s i) (drop-of-length-le b h))
 
 -- WHAT IT FINDS
 

@@ -11,7 +11,8 @@ use Rattle.layout.specs.Rule.{ruleOf}
 use Rattle.layout.specs.Read.{one, decode}
 use Rattle.layout.specs.Write.{lay, encode}
 use Rattle.rounds.proofs.Example.{box}
-use Rattle.emsg.specs.Emsg.{textEnd, emsg, places, emsgOf, schemeOf, valueOf, messageOf, emsgIn}
+use Rattle.strings.specs.Text.{textEnd}
+use Rattle.emsg.specs.Emsg.{emsg, places, emsgOf, schemeOf, valueOf, messageOf, emsgIn}
 use Rattle.emsg.specs.declared.Emsg.{Emsg}
 use Rattle.emsg.specs.declared.Found.the-variants.{Is, Refused}
 

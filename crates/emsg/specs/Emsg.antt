@@ -1,7 +1,7 @@
 -- The event message box (ISO/IEC 23009-1, 5.10.3.3): two strings that end with a 0, four numbers and a message, which is
 -- the rest of the box (A27). Version 0 has the strings first and a time of 4 bytes, version 1 the numbers first and a
 -- time of 8. A string's letters are not tested. Assumes nothing.
-use Prim.Native.Nat.{ℕ, suc, _+_, _-_, _^_}
+use Prim.Native.Nat.{ℕ, _+_, _-_, _^_}
 use mathlib.Core.List.{List, [], _∷_, _++_}
 use mathlib.Core.Bool.{Bool, true, false, _&&_}
 use lib.ListN.{length, take, drop, getD}
@@ -15,12 +15,13 @@ use Rattle.layout.specs.Write.{writeOf, padded, slotted}
 use Rattle.layout.specs.declared.Field.{Field}
 use Rattle.layout.specs.declared.Field.the-variants.{Version, Flags}
 use Rattle.layout.specs.declared.read.Fields.{Fields}
+use Rattle.strings.specs.Text.{textAt}
+use Rattle.strings.specs.declared.Text.{Text}
+use Rattle.strings.specs.declared.Text.the-variants.{End, Cut}
 use Rattle.emsg.specs.declared.Emsg.{Emsg}
 use Rattle.emsg.specs.declared.Places.{Places}
 use Rattle.emsg.specs.declared.Found.{Found}
 use Rattle.emsg.specs.declared.Found.the-variants.{Is, Refused}
-use Rattle.emsg.specs.declared.Text.{Text}
-use Rattle.emsg.specs.declared.Text.the-variants.{End, Cut}
 use Rattle.emsg.specs.declared.Strings.{Strings}
 use Rattle.emsg.specs.declared.Strings.the-variants as strings
 use Rattle.emsg.specs.declared.Numbers.{Numbers}
@@ -37,14 +38,6 @@ abbrev pub wide : ℕ → ℕ
 wide v = when (eqb v 0) 4 8
 
 -- READING
-
--- where the first 0 of a list stands that begins at `at`
-unfoldable pub textEnd : List ℕ → ℕ → Text
-textEnd [] at = Cut
-textEnd (x ∷ s) at = when (eqb x 0) (End at) (textEnd s (suc at))
-
-abbrev pub textAt : List ℕ → ℕ → Text
-textAt b at = textEnd (drop at b) at
 
 -- two strings, the second behind the first one's 0; one that has no 0 is 1 at its first byte
 abbrev pub secondOf : ℕ → Text → Strings

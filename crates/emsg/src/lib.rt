@@ -2,18 +2,13 @@
 // is the rest of the box (A27). Version 0 has the strings first and a time of 4 bytes, version 1 the numbers first and
 // a time of 8.
 ghost use mathlib.Core.Path.{_≡_};
-ghost use Prim.Native.Nat.{_+_, _-_, _^_, _≤_, _<_, min};
-ghost use lib.ListN.{length};
-ghost use lib.Seq.{sets};
-ghost use Rattle.put.specs.Put.{wrote};
-ghost use Rattle.emsg.specs.Emsg.{textAt, stringsOf, numbersOf, stringsFirst, numbersFirst, emsgOf, wide, whole, sound, stringBytes, numberBytes, laid, emsgIn};
-use boxes::full;
-use boxes::header;
+ghost use Prim.Native.Nat.{_≤_};
+ghost use Rattle.emsg.specs.Emsg.{stringsOf, numbersOf, stringsFirst, numbersFirst, emsgOf};
 use layout::Field;
 use numbers::Refusal;
 use numbers::U32;
 use numbers::U64;
-use put::Put;
+use strings::Text;
 
 // The time is from the segment's start in version 0, and from the presentation's in version 1.
 pub struct Emsg {
@@ -38,12 +33,6 @@ pub struct Places {
 pub enum Found {
     Is(Emsg, Places),
     Refused(Refusal),
-}
-
-// Where a string's 0 stands, if it has one.
-pub(crate) enum Text {
-    End(usize),
-    Cut,
 }
 
 // Where the 0 of each of two strings stands.
@@ -71,33 +60,17 @@ pub const ROW: [Field; 8] = [
     Field::Nothing,
 ];
 
-// READING
-
-// The first 0 from `at` on.
-fn text_end(b: &[u8], at: usize) -> Text
-    ensures { λ r. ⌜ r ≡ textAt (now (b .entry)) at ⌝ }
-{
-    let mut i = at;
-    while i < b.len() {
-        if b[i] == 0 {
-            return Text::End(i);
-        }
-        i = i + 1;
-    }
-    Text::Cut
-}
-
 fn strings_at(b: &[u8], at: usize) -> Strings
     ensures { λ r. ⌜ r ≡ stringsOf (now (b .entry)) at ⌝ }
 {
-    match text_end(b, at) {
+    match strings::text_end(b, at) {
         Text::Cut => Strings::Refused(Refusal {
             number: 1,
             detail: at,
         }),
         Text::End(scheme_end) => {
             let value = scheme_end + 1;
-            match text_end(b, value) {
+            match strings::text_end(b, value) {
                 Text::Cut => Strings::Refused(Refusal {
                     number: 1,
                     detail: value,
@@ -227,143 +200,4 @@ pub fn read(part: &[u8]) -> Found
         return strings_first(&part[..end], place, flags);
     }
     numbers_first(&part[..end], place, flags)
-}
-
-// WRITING
-
-fn no_zero(text: &[u8]) -> bool
-    ensures { λ r. ⌜ r ≡ whole (textAt (now (text .entry)) 0) ⌝ }
-{
-    match text_end(text, 0) {
-        Text::Cut => true,
-        Text::End(_) => false,
-    }
-}
-
-// The largest time.
-fn most_time(version: u8) -> u64
-    ensures { λ r. ⌜ r ≡ 256 ^ wide version - 1 ⌝ }
-{
-    if version == 0 {
-        0xffff_ffff
-    } else {
-        0xffff_ffff_ffff_ffff
-    }
-}
-
-// Whether the time has its bytes, and neither string holds a 0. The other numbers always have theirs.
-fn is_sound(emsg: Emsg, scheme: &[u8], value: &[u8]) -> bool
-    ensures { λ r. ⌜ r ≡ sound emsg (now (scheme .entry)) (now (value .entry)) ⌝ }
-{
-    if most_time(emsg.version) < emsg.presentation_time {
-        return false;
-    }
-    if !no_zero(scheme) {
-        return false;
-    }
-    no_zero(value)
-}
-
-// A sum, or 2^32 where it is more.
-fn capped(a: usize, b: usize) -> usize
-    requires { ⌜ a ≤ 2 ^ 32 ⌝ }
-    ensures { λ r. ⌜ r ≡ min (a + b) (2 ^ 32) ⌝ }
-{
-    if 0x1_0000_0000 - a < b {
-        return 0x1_0000_0000;
-    }
-    a + b
-}
-
-// The strings from `at` on, and the position after them.
-fn put_strings(out: &mut [u8], at: usize, scheme: &[u8], value: &[u8]) -> usize
-    requires { ⌜ at + length (stringBytes (now scheme) (now value)) ≤ length (now out) ⌝ }
-    ensures { λ r. ⌜ (now (out .exit) ≡ sets (now (out .entry)) at (stringBytes (now (scheme .entry)) (now (value .entry))))
-        × (r ≡ at + length (stringBytes (now (scheme .entry)) (now (value .entry)))) ⌝ }
-{
-    put::part(out, at, scheme);
-    let first = at + scheme.len();
-    put::u8_at(out, first, 0);
-    put::part(out, first + 1, value);
-    let second = first + 1 + value.len();
-    put::u8_at(out, second, 0);
-    second + 1
-}
-
-// The numbers from `at` on, the time in w bytes, and the position after them.
-fn put_numbers(out: &mut [u8], at: usize, w: usize, emsg: Emsg) -> usize
-    requires { ⌜ (at + 12 + w ≤ length (now out)) × (w ≤ 8) × (emsg .«presentation_time» < 256 ^ w) ⌝ }
-    ensures { λ r. ⌜ (now (out .exit) ≡ sets (now (out .entry)) at (numberBytes w emsg)) × (r ≡ at + 12 + w) ⌝ }
-{
-    put::u32_at(out, at, emsg.timescale);
-    put::number(out, at + 4, w, emsg.presentation_time);
-    let next = at + 4 + w;
-    put::u32_at(out, next, emsg.event_duration);
-    put::u32_at(out, next + 4, emsg.id);
-    next + 8
-}
-
-// What lies behind the flags.
-fn put_content(out: &mut [u8], emsg: Emsg, scheme: &[u8], value: &[u8], message: &[u8])
-    requires { ⌜ (12 + length (laid emsg (now scheme) (now value) (now message)) ≤ length (now out)) × (emsg .«presentation_time» < 256 ^ wide (emsg .version)) ⌝ }
-    ensures { λ _. ⌜ now (out .exit) ≡ sets (now (out .entry)) 12 (laid emsg (now (scheme .entry)) (now (value .entry)) (now (message .entry))) ⌝ }
-{
-    if emsg.version == 0 {
-        let strings = put_strings(out, 12, scheme, value);
-        let numbers = put_numbers(out, strings, 4, emsg);
-        put::part(out, numbers, message);
-        return;
-    }
-    let numbers = put_numbers(out, 12, 8, emsg);
-    let strings = put_strings(out, numbers, scheme, value);
-    put::part(out, strings, message);
-}
-
-// How many bytes header, version, flags, numbers and both 0 have.
-fn fixed(version: u8) -> usize
-    ensures { λ r. ⌜ r ≡ 26 + wide version ⌝ }
-{
-    if version == 0 { 30 } else { 34 }
-}
-
-// The strings are lent without their 0.
-pub fn write(emsg: Emsg, scheme: &[u8], value: &[u8], message: &[u8], out: &mut [u8]) -> Put
-    ensures { λ r. ⌜ wrote r (now (out .exit)) ≡ emsgIn emsg (now (scheme .entry)) (now (value .entry)) (now (message .entry)) (now (out .entry)) ⌝ }
-{
-    if !is_sound(emsg, scheme, value) {
-        return Put::Refused(Refusal {
-            number: 13,
-            detail: 0,
-        });
-    }
-    if 1 < emsg.version {
-        return Put::Refused(Refusal {
-            number: 13,
-            detail: 0,
-        });
-    }
-    if 0xff_ffff < emsg.flags {
-        return Put::Refused(Refusal {
-            number: 13,
-            detail: 0,
-        });
-    }
-    let texts = capped(capped(fixed(emsg.version), scheme.len()), value.len());
-    let total = capped(texts, message.len());
-    if 0xffff_ffff < total {
-        return Put::Refused(Refusal {
-            number: 13,
-            detail: 0,
-        });
-    }
-    if out.len() < total {
-        return Put::Refused(Refusal {
-            number: 12,
-            detail: total,
-        });
-    }
-    header::write(out, 0, KIND, total);
-    full::write(out, 8, emsg.version, emsg.flags);
-    put_content(out, emsg, scheme, value, message);
-    Put::Done(total)
 }

@@ -7,7 +7,7 @@ use Rattle.numbers.specs.Field.{refusal, field, when}
 use Rattle.layout.specs.Rule.{ruleOf}
 use Rattle.layout.specs.Read.{one, decode}
 use Rattle.layout.specs.Table.{cutOf}
-use Rattle.emsg.specs.Emsg.{textEnd}
+use Rattle.strings.specs.Text.{textEnd}
 use Rattle.rows.specs.Rows.{widthOf, allowedOf, lastOf, cellsOf, entriesOf}
 use Rattle.rows.specs.declared.Judged.{Judged}
 use Rattle.rows.specs.declared.Judged.the-variants.{Fine, Wrong}

@@ -1,18 +1,16 @@
-// How many samples a track of a fragmented file has, their bytes, one of them by its number, and whether it is sync: the
-// rows are walked by their counts, then, for the sample, those of one run.
+// How many samples a track of a fragmented file has, one of them by its number, and whether it is sync: the rows are walked
+// by their counts, then, for the sample, those of one run.
 ghost use mathlib.Core.Path.{_≡_};
-ghost use Prim.Native.Nat.{_+_};
 ghost use lib.ListN.{drop};
-ghost use Rattle.samples.specs.Lists.{view, bytesOf, lookupOf};
+ghost use Rattle.samples.specs.Lists.{view, lookupOf};
 ghost use Rattle.lookup.specs.Lookup.{syncOf};
-ghost use Rattle.runs.specs.Samples.{runSamples, endBy};
+ghost use Rattle.runs.specs.Samples.{runSamples};
 ghost use Rattle.runs.specs.Lane as inner;
 ghost use Rattle.runtable.specs.Table.{rowsOf};
 ghost use Rattle.fragments.specs.Samples.{countOf, countIn, samplesOfRuns};
-ghost use Rattle.runlookup.specs.Lookup.{counted, bytesOfRun, placeIn};
+ghost use Rattle.runlookup.specs.Lookup.{counted, placeIn};
 use lookup::Synced;
 use numbers::Refusal;
-use runs::DataEnd;
 use runs::Run;
 use samples::Found;
 use samples::Located;
@@ -54,35 +52,6 @@ pub fn count(table: &[u64], n: usize, track: u32) -> Tally
         i += 1;
     }
     Tally::Is(many)
-}
-
-// What follows a position and the sizes of the track's samples in a run.
-fn bytes_after(file: &[u8], run: Run, track: u32, from: u64) -> DataEnd
-    ensures { λ r. ⌜ r ≡ endBy (from + bytesOfRun (now (file .entry)) track run) ⌝ }
-{
-    if track == run.track {
-        return runsums::reach(file, run, from);
-    }
-    DataEnd::At(from)
-}
-
-// The bytes of all samples of the track in the first n rows of the table.
-pub fn total(file: &[u8], table: &[u64], n: usize, track: u32) -> Tally
-    ensures { λ r. ⌜ r ≡ counted (bytesOf (samplesOfRuns (now (file .entry)) (rowsOf (now (table .entry)) n) track)) ⌝ }
-{
-    let mut sum = 0;
-    let mut i = 0;
-    while i < n {
-        let runtable::Found::Is(run) = runtable::row(table, i) else {
-            return Tally::Is(sum);
-        };
-        let DataEnd::At(further) = bytes_after(file, run, track, sum) else {
-            return Tally::Over;
-        };
-        sum = further;
-        i += 1;
-    }
-    Tally::Is(sum)
 }
 
 // A sample's place: its run, how many samples of the track come before the run, and how many in it.

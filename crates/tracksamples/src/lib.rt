@@ -153,7 +153,7 @@ pub fn total(file: &[u8], source: Source, runs: &[u64], rows: usize) -> U64
     ensures { λ r. ⌜ r ≡ totalOf (samplesFrom (now (file .entry)) source (rowsOf (now (runs .entry)) rows)) ⌝ }
 {
     if source.fragmented {
-        return whole(runlookup::total(file, runs, rows, source.number));
+        return whole(runbytes::total(file, runs, rows, source.number));
     }
     U64::Is(lookup::total(file, source.tables))
 }
