@@ -40,14 +40,13 @@ pub fn of_all_files(files: &Files) {
                 },
                 Ok(all),
             ) => {
-                let summaries = || all.iter().map(|track| track.summary().unwrap());
+                let listed: Vec<Sample> = all
+                    .iter()
+                    .flat_map(|track| track.samples().unwrap())
+                    .collect();
+                let bytes: u64 = listed.iter().map(|s| s.size as u64).sum();
                 assert_eq!(all.len(), tracks as usize, "{name}");
-                assert_eq!(
-                    summaries().map(|s| s.samples as u64).sum::<u64>(),
-                    samples,
-                    "{name}"
-                );
-                assert_eq!(summaries().map(|s| s.bytes).sum::<u64>(), media, "{name}");
+                assert_eq!((listed.len() as u64, bytes), (samples, media), "{name}");
                 all.iter().for_each(|track| assert_sound(track, &name));
             }
             (Verdict::Found(_), Ok(all)) => all.iter().for_each(|track| assert_sound(track, &name)),
@@ -56,23 +55,22 @@ pub fn of_all_files(files: &Files) {
     }
 }
 
-// The samples are those that the summary counts, in their order.
+// The samples are those that the summary counts, in their order. One file has a track without a summary.
 fn assert_sound(track: &Track, name: &str) {
     let samples = track.samples().unwrap();
-    let summary = track.summary().unwrap();
-    assert_eq!(samples.len(), summary.samples as usize, "{name}");
-    assert_eq!(
-        samples.iter().map(|s| s.size as u64).sum::<u64>(),
-        summary.bytes,
-        "{name}"
-    );
-    assert!(
-        samples
-            .iter()
-            .map(|s| s.number)
-            .eq(1..=samples.len() as u32),
-        "{name}"
-    );
+    let numbers = samples.iter().map(|s| s.number);
+    assert!(numbers.eq(1..=samples.len() as u32), "{name}");
+    match track.summary() {
+        Ok(summary) => {
+            let bytes = samples.iter().map(|s| s.size as u64).sum::<u64>();
+            let counted = (summary.samples as usize, summary.bytes);
+            assert_eq!(counted, (samples.len(), bytes), "{name}");
+        }
+        Err(refusal) => {
+            assert_eq!(refusal, Refusal::OutOfRange, "{name}");
+            assert_eq!(name, "clean_duration_unknown.mp4");
+        }
+    }
 }
 
 /// A sample by its number is that of the list, and there are no others.
