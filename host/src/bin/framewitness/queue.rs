@@ -23,11 +23,39 @@ pub fn tell_all(task: Task, names: &[OsString], jobs: usize) -> Status {
     let Ok(mut output) = Output::open() else {
         return output::unwritten();
     };
+    let jobs = jobs.min(names.len());
+    let told = match jobs {
+        1 => one_by_one(task, names, &mut output),
+        _ => side_by_side(task, names, jobs, &mut output),
+    };
+    told.unwrap_or_else(|_| output::unwritten())
+}
+
+/// Without a thread, since an emulator takes several times as long for the same instructions in one.
+fn one_by_one(task: Task, names: &[OsString], output: &mut Output) -> io::Result<Status> {
+    let mut progress = Progress::new(names.len());
+    let mut status = Status::Clean;
+    for (done, name) in names.iter().enumerate() {
+        progress.show(done);
+        let told = tell::of(task, name);
+        progress.clear();
+        output.write(&told.text)?;
+        status = status.max(told.status);
+    }
+    Ok(status)
+}
+
+fn side_by_side(
+    task: Task,
+    names: &[OsString],
+    jobs: usize,
+    output: &mut Output,
+) -> io::Result<Status> {
     let next = AtomicUsize::new(0);
     let (sender, told) = mpsc::channel();
     thread::scope(|scope| {
         let mut started = 0;
-        for _ in 0..jobs.min(names.len()) {
+        for _ in 0..jobs {
             let (sender, next) = (sender.clone(), &next);
             let worker = move || loop {
                 let i = next.fetch_add(1, Ordering::Relaxed);
@@ -48,10 +76,10 @@ pub fn tell_all(task: Task, names: &[OsString], jobs: usize) -> Status {
         drop(sender);
         if started == 0 {
             complain("framewitness: the system gives no thread to audit in\n");
-            return Status::NoVerdict;
+            return Ok(Status::NoVerdict);
         }
         // whatever the outcome, the receiver ends here, and with it the workers
-        write_in_order(told, names.len(), &mut output).unwrap_or_else(|_| output::unwritten())
+        write_in_order(told, names.len(), output)
     })
 }
 
