@@ -46,9 +46,9 @@ uint32_t framewitness_audit(const uint8_t *file, size_t length, uint64_t *out, s
    comes first. */
 uint32_t framewitness_track(const uint8_t *file, size_t length, size_t place, uint64_t *also);
 
-/* Lists the samples of the track at `place`, seven words for each: its number, its offset
-   in the file, its size, its time, its duration, its composition offset (signed, in two's complement), and 1 where it is a
-   sync sample, else 0. also: how many samples. 12: also is how many there are, and seven words are needed for each. */
+/* Lists the samples of the track at `place`, seven words for each: its number, its offset in the file, its size, its time, its
+   duration, its composition offset (signed, in two's complement), and 1 where it is a sync sample, else 0. also: how many
+   samples. 12: also is how many there are, and seven words are needed for each. */
 uint32_t framewitness_list(const uint8_t *file, size_t length, size_t place, uint64_t *out, size_t room, uint64_t *also);
 
 /* Tells one sample of that track by its number (the first is 1), in the same seven words. also 1. 11: there is no such
