@@ -1,3 +1,4 @@
+#![tactic(auto)]
 // How far a signed number is from 0, for those who print it: -n need not fit.
 ghost use Rattle.std.specs.Prelude.{◌≡◌};
 ghost use Rattle.absolute.specs.Absolute.{absolute_of};

@@ -1,3 +1,4 @@
+#![tactic(auto)]
 // Whether the tables of a track agree on how many samples there are, and have no number past the last sample or chunk.
 // An entry is visited once, one of stsc twice; a size never. Nothing is refused here.
 ghost use Rattle.std.specs.Prelude.{◌≡◌};

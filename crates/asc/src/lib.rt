@@ -1,3 +1,4 @@
+#![tactic(auto)]
 // The first fields of an AudioSpecificConfig (ISO/IEC 14496-3, 1.6.2.1), which are no whole bytes.
 ghost use Rattle.std.specs.Prelude.{◌≡◌, ◌+◌, ◌*◌, ◌^◌, ◌≤◌, ◌<◌, length};
 ghost use Rattle.put.specs.Put.{wrote};
@@ -6,7 +7,7 @@ ghost use Rattle.asc.specs.Config.{bit_of, bits_of, bit_field, channels_of, rate
 use numbers::{Refusal, U32};
 use put::Put;
 
-#[derive(Drop)]
+#[derive(Clone, Copy)]
 pub struct Config {
     pub object_type: u8,
     pub frequency_index: u8,
@@ -15,7 +16,7 @@ pub struct Config {
     pub channels: u8,
 }
 
-#[derive(Drop)]
+#[derive(Clone, Copy)]
 pub enum Found {
     Is(Config),
     Refused(Refusal),

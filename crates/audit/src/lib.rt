@@ -1,3 +1,4 @@
+#![tactic(auto)]
 // The audit of a file: from its bytes to a verdict, or to why it is refused.
 ghost use Rattle.std.specs.Prelude.{◌≡◌};
 ghost use Rattle.kin.specs.Kin.{boxes};

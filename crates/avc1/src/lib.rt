@@ -1,3 +1,4 @@
+#![tactic(auto)]
 // The sample entry of an AVC track (ISO/IEC 14496-15, 5.4.2.1): a visual sample entry whose boxes hold the configuration
 // of its decoder, avcC.
 ghost use Rattle.std.specs.Prelude.{◌≡◌};

@@ -1,3 +1,4 @@
+#![tactic(auto)]
 // The configuration of an AVC decoder (ISO/IEC 14496-15, 5.3.3.1): six bytes, the sequence parameter sets, a byte with
 // the number of the picture parameter sets, those, and the extension of the high profiles, which is the rest of the box.
 ghost use Rattle.std.specs.Prelude.{◌≡◌, ◌+◌, ◌≤◌, min, ◌^◌, length};
@@ -11,7 +12,7 @@ use numbers::{Refusal, U8};
 use put::Put;
 
 // `length_size` is the size of a sample's lengths less one; `sps` and `pps` are how many sets there are.
-#[derive(Drop)]
+#[derive(Clone, Copy)]
 pub struct Avcc {
     pub profile: u8,
     pub compatibility: u8,
@@ -22,7 +23,7 @@ pub struct Avcc {
 }
 
 // Where each list begins and ends, and where the box ends. The extension begins where the second list ends.
-#[derive(Drop)]
+#[derive(Clone, Copy)]
 pub struct Places {
     pub sps: usize,
     pub sps_end: usize,
@@ -31,14 +32,14 @@ pub struct Places {
     pub end: usize,
 }
 
-#[derive(Drop)]
+#[derive(Clone, Copy)]
 pub enum Found {
     Is(Avcc, Places),
     Refused(Refusal),
 }
 
 // The profile, its compatibility, the level, the size of lengths less one, and the number of sequence parameter sets.
-#[derive(Drop)]
+#[derive(Clone, Copy)]
 pub(crate) enum Head {
     Is(u8, u8, u8, u8, u8),
     Refused(Refusal),

@@ -1,3 +1,4 @@
+#![tactic(auto)]
 // The parameter sets of an AVC decoder's configuration (`avcc`) and its extension, each lent where it lies.
 ghost use Rattle.std.specs.Prelude.{◌≡◌};
 ghost use Rattle.avcc.specs.Avcc.{sps_list_of, pps_list_of, extension_of, sps_of, pps_of};

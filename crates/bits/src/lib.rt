@@ -1,3 +1,4 @@
+#![tactic(auto)]
 // The flags of a full box (ISO/IEC 14496-12, 4.2): whether one is set, and the value that it chooses.
 ghost use Rattle.std.specs.Prelude.{◌≡◌};
 ghost use Rattle.numbers.specs.Field.{when};

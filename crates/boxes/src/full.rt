@@ -6,13 +6,13 @@ ghost use Rattle.boxes.specs.Full.{full_of, full_in};
 use numbers::{Refusal, U8, U32};
 use put::Put;
 
-#[derive(Drop)]
+#[derive(Clone, Copy)]
 pub struct Full {
     pub version: u8,
     pub flags: u32,
 }
 
-#[derive(Drop)]
+#[derive(Clone, Copy)]
 pub enum Found {
     Is(Full),
     Refused(Refusal),

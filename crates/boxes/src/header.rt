@@ -6,7 +6,7 @@ ghost use Rattle.boxes.specs.Header.{within, typed_of, large_of, header_of, plai
 use numbers::{Refusal, U32, U64};
 use put::Put;
 
-#[derive(Drop)]
+#[derive(Clone, Copy)]
 pub struct Header {
     // the type, its four letters as a number
     pub kind: u32,
@@ -16,7 +16,7 @@ pub struct Header {
     pub length: usize,
 }
 
-#[derive(Drop)]
+#[derive(Clone, Copy)]
 pub enum Found {
     Is(Header),
     Refused(Refusal),

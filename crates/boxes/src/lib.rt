@@ -1,3 +1,4 @@
+#![tactic(auto)]
 // What every box begins with: its header, and of a full box its version and flags.
 pub mod full;
 pub mod header;

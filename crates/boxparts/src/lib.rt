@@ -1,3 +1,4 @@
+#![tactic(auto)]
 // A box in bytes that are boxes, as the part of them where it lies: the first of a type, or one by its number.
 ghost use Rattle.std.specs.Prelude.{◌≡◌, length, false};
 ghost use Rattle.boxes.specs.Header.{header_of};

@@ -1,3 +1,4 @@
+#![tactic(auto)]
 // Builds the tables of each list of samples that its standard input tells of, and prints their boxes.
 // A list has its timescale and the count of its samples, in four bytes each, the highest byte of each number first; then
 // for each sample its offset in 8 bytes, and in 4 each its size, its duration, its composition offset, signed, and

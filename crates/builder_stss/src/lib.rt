@@ -1,3 +1,4 @@
+#![tactic(auto)]
 // The sync samples (ISO/IEC 14496-12, 8.6.2): their numbers, counted from 1. Where no sample is sync there is no entry, and
 // the box is there all the same (A56).
 ghost use Rattle.std.specs.Prelude.{◌≡◌, ◌^◌, ◌<◌, length};

@@ -1,3 +1,4 @@
+#![tactic(auto)]
 // The sample sizes (ISO/IEC 14496-12, 8.7.3.2): one that all samples have in common, or a list.
 ghost use Rattle.std.specs.Prelude.{◌≡◌, ◌^◌, ◌<◌};
 ghost use Rattle.put.specs.Put.{wrote};

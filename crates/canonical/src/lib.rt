@@ -1,3 +1,4 @@
+#![tactic(auto)]
 // Whether a box that is a row of fields (`layout`) is canonical: byte for byte as its writer writes it.
 ghost use Rattle.std.specs.Prelude.{◌≡◌, ◌≤◌, length};
 ghost use Rattle.layout.specs.Canonical.{exact, canonical_of, ours};

@@ -1,3 +1,4 @@
+#![tactic(auto)]
 // The children of a box whose whole content is boxes, walked by their headers in file order. Positions are counted from
 // the first byte of what is lent, where the box itself begins.
 ghost use Rattle.std.specs.Prelude.{◌≡◌, ◌-◌, length};
@@ -10,7 +11,7 @@ use numbers::Refusal;
 use rows::Judged;
 
 // Where the first child of a type begins, unless a fault comes before it.
-#[derive(Drop)]
+#[derive(Clone, Copy)]
 pub enum Child {
     Absent,
     At(usize),
@@ -18,7 +19,7 @@ pub enum Child {
 }
 
 // Where a child begins, where it is there.
-#[derive(Drop)]
+#[derive(Clone, Copy)]
 pub enum Place {
     Absent,
     At(usize),

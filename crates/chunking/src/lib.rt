@@ -1,3 +1,4 @@
+#![tactic(auto)]
 // The chunks of a track, from its samples: a chunk closes when its durations reach one timescale (01, Writer), and before
 // a sample that does not begin where the one before it ends, since tables tell only the place of a chunk's first sample.
 ghost use Rattle.std.specs.Prelude.{◌≡◌};
@@ -9,7 +10,7 @@ use merging::{MOST, Open};
 
 // The samples that are in a chunk: where the first lies, how many there are, how long they last, and where the last one
 // lies and its size. A chunk that counts 0 has none yet.
-#[derive(Drop)]
+#[derive(Clone, Copy)]
 pub struct Chunk {
     pub at: u64,
     pub count: u32,
@@ -19,14 +20,14 @@ pub struct Chunk {
 }
 
 // What a sample does to the open chunk: it joins it, or it closes it and opens another.
-#[derive(Drop)]
+#[derive(Clone, Copy)]
 pub enum Step {
     Longer(Chunk),
     Closed { chunk: Chunk, open: Chunk },
 }
 
 // For stsc: the chunks of the open run, the number of its first chunk, and how many numbers were put.
-#[derive(Drop)]
+#[derive(Clone, Copy)]
 pub struct Group {
     pub run: Open,
     pub first: u64,

@@ -1,3 +1,4 @@
+#![tactic(auto)]
 // The places of the chunks (ISO/IEC 14496-12, 8.7.5): in 32 bits each where all of them fit (stco), else in 64 (co64).
 ghost use Rattle.std.specs.Prelude.{◌≡◌, ◌^◌, ◌<◌, length};
 ghost use Rattle.put.specs.Put.{wrote};

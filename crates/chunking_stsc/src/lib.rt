@@ -1,3 +1,4 @@
+#![tactic(auto)]
 // How many samples the chunks have (ISO/IEC 14496-12, 8.7.4): an entry where that changes, of the first chunk that has so
 // many, their number, and the description, which is 1.
 ghost use Rattle.std.specs.Prelude.{◌≡◌, ◌^◌, ◌<◌, length};

@@ -1,3 +1,4 @@
+#![tactic(auto)]
 // What the readers of the boxes that say how samples are coded refuse: sample entries, and their configurations. A type
 // whose content is not read is fine.
 ghost use Rattle.std.specs.Prelude.{◌≡◌};

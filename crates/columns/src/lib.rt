@@ -1,3 +1,4 @@
+#![tactic(auto)]
 // What the tables of a track are built from and into: the samples as records of seven numbers, column by column, and the
 // entries of a table as numbers of four bytes in a lent buffer, one behind the other.
 ghost use Rattle.std.specs.Prelude.{◌≡◌, ◌*◌, length, leb};
@@ -26,7 +27,7 @@ pub const MANY: usize = 0xFFFF_FFFF;
 
 // What a number of a record may be asked for: to be 0, to have 32 bits, or to be a signed number of 32 bits in the two's
 // complement of 64.
-#[derive(Drop)]
+#[derive(Clone, Copy)]
 pub enum Rule {
     Zero,
     Narrow,

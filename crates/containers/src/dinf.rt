@@ -7,12 +7,12 @@ use numbers::Refusal;
 use places::kinds;
 use rows::Judged;
 
-#[derive(Drop)]
+#[derive(Clone, Copy)]
 pub struct Dinf {
     pub dref: Place,
 }
 
-#[derive(Drop)]
+#[derive(Clone, Copy)]
 pub enum Found {
     Is(Dinf),
     Refused(Refusal),

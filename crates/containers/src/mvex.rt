@@ -7,12 +7,12 @@ use numbers::Refusal;
 use places::kinds;
 use rows::Judged;
 
-#[derive(Drop)]
+#[derive(Clone, Copy)]
 pub struct Mvex {
     pub trex: Place,
 }
 
-#[derive(Drop)]
+#[derive(Clone, Copy)]
 pub enum Found {
     Is(Mvex),
     Refused(Refusal),

@@ -1,3 +1,4 @@
+#![tactic(auto)]
 // Whether a recorded box has a fault, and which: of its place among others, of the number that is held against them,
 // or of its own content.
 ghost use Rattle.std.specs.Prelude.{◌≡◌, ◌<◌, eqb};

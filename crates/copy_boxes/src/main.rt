@@ -1,3 +1,4 @@
+#![tactic(auto)]
 // Reads every box of the packs that the arguments name, writes it again, and tells both: a line for each box.
 // A pack is a row of entries: a length in four bytes, the highest first, and as many bytes, a box from its header on.
 // A line has the box's type, then `unknown` where no reader here is for it; or `refused` with the number and the

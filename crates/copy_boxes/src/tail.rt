@@ -24,14 +24,19 @@ fn hdlr(part: &[u8], out: &mut [u8]) {
 }
 
 fn url(part: &[u8], out: &mut [u8]) {
-    match url::read(part) {
-        url::Found::Refused(q) => say::refused(q),
-        url::Found::Is(b) => {
+    match url_box::read(part) {
+        url_box::Found::Refused(q) => say::refused(q),
+        url_box::Found::Is(b) => {
             say::numbers(&[b.version as u64, b.flags as u64]);
-            let location = url::location(part);
+            let location = url_box::location(part);
             say::bytes(location);
-            say::canonical(part, url::KIND, say::whole(url::ROW), location.len());
-            let put = url::write(b, location, out);
+            say::canonical(
+                part,
+                url_box::KIND,
+                say::whole(url_box::ROW),
+                location.len(),
+            );
+            let put = url_box::write(b, location, out);
             say::written(put, part, out);
         }
     }

@@ -1,3 +1,4 @@
+#![tactic(auto)]
 // Reads every sample entry of the packs that the arguments name, and the boxes in them, writes each again, and tells both:
 // a line for each. A pack is a row of entries: a length in four bytes, the highest first, and as many bytes, a box from its
 // header on, or a question: four zeros, four letters, and what is asked. A line has the letters, then `unknown` where

@@ -1,3 +1,4 @@
+#![tactic(auto)]
 // The composition offsets (ISO/IEC 14496-12, 8.6.1.3): a count, and as many pairs of a count and an offset. The offset
 // is signed in versions 0 and 1 alike, as the Rust has it and against the standard (document 01).
 ghost use Rattle.std.specs.Prelude.{◌≡◌};
@@ -10,7 +11,7 @@ use numbers::{Refusal, U32};
 use put::Put;
 use signed::I32;
 
-#[derive(Drop)]
+#[derive(Clone, Copy)]
 pub struct Ctts {
     pub version: u8,
     pub flags: u32,
@@ -18,7 +19,7 @@ pub struct Ctts {
 }
 
 // The box, and where its entries begin.
-#[derive(Drop)]
+#[derive(Clone, Copy)]
 pub enum Found {
     Is(Ctts, usize),
     Refused(Refusal),
@@ -91,13 +92,13 @@ pub fn write(ctts: Ctts, entries: &[u8], out: &mut [u8]) -> Put
 }
 
 // A pair of the table: so many samples with this offset.
-#[derive(Drop)]
+#[derive(Clone, Copy)]
 pub struct Run {
     pub sample_count: u32,
     pub sample_offset: i32,
 }
 
-#[derive(Drop)]
+#[derive(Clone, Copy)]
 pub enum Listed {
     Is(Run),
     Refused(Refusal),

@@ -1,3 +1,4 @@
+#![tactic(auto)]
 // The content of a DecoderConfigDescriptor (ISO/IEC 14496-1, 7.2.6.6): five numbers, and descriptors, of which the first
 // DecoderSpecificInfo (7.2.6.7) is kept.
 ghost use Rattle.std.specs.Prelude.{◌≡◌, ◌+◌, ◌^◌, ◌≤◌, ◌<◌, length};
@@ -10,7 +11,7 @@ use numbers::{Refusal, U8, U32};
 use put::Put;
 
 // `stream` is a byte of three numbers: the stream's type in 6 bits, whether it goes upwards, and a reserved bit.
-#[derive(Drop)]
+#[derive(Clone, Copy)]
 pub struct Config {
     pub object_type_indication: u8,
     pub stream: u8,
@@ -21,19 +22,19 @@ pub struct Config {
 }
 
 // The record, and where the DecoderSpecificInfo's content begins and ends; 0 and 0 where there is none.
-#[derive(Drop)]
+#[derive(Clone, Copy)]
 pub enum Found {
     Is(Config, usize, usize),
     Refused(Refusal),
 }
 
-#[derive(Drop)]
+#[derive(Clone, Copy)]
 pub(crate) enum Numbers {
     Are(u8, u8, u32, u32, u32),
     Refused(Refusal),
 }
 
-#[derive(Drop)]
+#[derive(Clone, Copy)]
 pub(crate) enum Info {
     At(usize, usize),
     Absent,

@@ -1,3 +1,4 @@
+#![tactic(auto)]
 // Tells what every getter of a track answers, for each trak of the packs that the arguments name. A pack is a row of
 // entries: a length in four bytes, the highest first, and as many bytes, a trak from its header on. For each there is a line
 // `trak` with that length, then a line for each getter: its name, what it is asked for besides, and the answer, or

@@ -1,17 +1,18 @@
+#![tactic(auto)]
 // What every descriptor begins with: its tag, and its length in 7 bits a byte (ISO/IEC 14496-1, 7.2.6 and 8.3.3).
 ghost use Rattle.std.specs.Prelude.{◌≡◌, ◌%◌, ◌<◌};
 ghost use Rattle.descriptor.specs.Descriptor.{length_of, head_of};
 
 use numbers::{Refusal, U8};
 
-#[derive(Drop)]
+#[derive(Clone, Copy)]
 pub enum Length {
     // the length, and the position after its last byte
     Is { value: u32, after: usize },
     Refused(Refusal),
 }
 
-#[derive(Drop)]
+#[derive(Clone, Copy)]
 pub enum Head {
     // the content lies from `from` up to `to`
     Is { tag: u8, from: usize, to: usize },

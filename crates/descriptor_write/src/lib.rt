@@ -1,3 +1,4 @@
+#![tactic(auto)]
 // The writer of what every descriptor begins with (`descriptor`): its tag, and its length in 7 bits a byte.
 ghost use Rattle.std.specs.Prelude.{◌≡◌, ◌+◌, ◌^◌, ◌≤◌, length};
 ghost use Rattle.std.proofs.lemmas.List.Edits.{sets};

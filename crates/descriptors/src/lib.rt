@@ -1,3 +1,4 @@
+#![tactic(auto)]
 // Descriptors one after the other (ISO/IEC 14496-1, 7.2.2): up to the first of two tags, each one before it skipped by its
 // length; and a descriptor with its content.
 ghost use Rattle.std.specs.Prelude.{◌≡◌};
@@ -9,7 +10,7 @@ use numbers::Refusal;
 use put::Put;
 
 // A descriptor's tag, where it begins, and where its content lies; or that the bytes end before there is one.
-#[derive(Drop)]
+#[derive(Clone, Copy)]
 pub enum Sought {
     Is {
         tag: u8,

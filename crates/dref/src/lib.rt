@@ -1,3 +1,4 @@
+#![tactic(auto)]
 // Where the media data of a track may lie (ISO/IEC 14496-12, 8.7.2): how many references there are, and then the boxes
 // of these, to the box's end. Whether there are as many as the count says is told by the tree of boxes (A47).
 ghost use Rattle.std.specs.Prelude.{◌≡◌};
@@ -8,14 +9,14 @@ use layout::Field;
 use numbers::Refusal;
 use put::Put;
 
-#[derive(Drop)]
+#[derive(Clone, Copy)]
 pub struct Dref {
     pub version: u8,
     pub flags: u32,
     pub count: u32,
 }
 
-#[derive(Drop)]
+#[derive(Clone, Copy)]
 pub enum Found {
     Is(Dref),
     Refused(Refusal),

@@ -1,3 +1,4 @@
+#![tactic(auto)]
 // A duration in microseconds.
 ghost use Rattle.std.specs.Prelude.{◌≡◌};
 ghost use Rattle.duration.specs.Duration.{micros_of};

@@ -1,3 +1,4 @@
+#![tactic(auto)]
 // The edit list (ISO/IEC 14496-12, 8.6.6): a count, and as many edits, with times of 4 bytes in version 0 and of 8 in
 // version 1. A media time of -1 is an empty edit; below it is 8.
 ghost use Rattle.std.specs.Prelude.{◌≡◌, ◌*◌};
@@ -12,7 +13,7 @@ use put::Put;
 use rows::{Cell, Judged};
 use signed::{I16, I32, I64};
 
-#[derive(Drop)]
+#[derive(Clone, Copy)]
 pub struct Elst {
     pub version: u8,
     pub flags: u32,
@@ -20,7 +21,7 @@ pub struct Elst {
 }
 
 // The box, and where its entries begin.
-#[derive(Drop)]
+#[derive(Clone, Copy)]
 pub enum Found {
     Is(Elst, usize),
     Refused(Refusal),
@@ -119,7 +120,7 @@ pub fn write(elst: Elst, entries: &[u8], out: &mut [u8]) -> Put
     short::write::by(out, KIND, ROW, v, entries)
 }
 
-#[derive(Drop)]
+#[derive(Clone, Copy)]
 pub struct Edit {
     pub segment_duration: u64,
     pub media_time: i64,
@@ -127,7 +128,7 @@ pub struct Edit {
     pub media_rate_fraction: i16,
 }
 
-#[derive(Drop)]
+#[derive(Clone, Copy)]
 pub enum Listed {
     Is(Edit),
     Refused(Refusal),

@@ -1,3 +1,4 @@
+#![tactic(auto)]
 // The event message box (ISO/IEC 23009-1, 5.10.3.3): two strings that end with a 0, four numbers and a message, which
 // is the rest of the box (A27). Version 0 has the strings first and a time of 4 bytes, version 1 the numbers first and
 // a time of 8.
@@ -9,7 +10,7 @@ use numbers::{Refusal, U32, U64};
 use strings::Text;
 
 // The time is from the segment's start in version 0, and from the presentation's in version 1.
-#[derive(Drop)]
+#[derive(Clone, Copy)]
 pub struct Emsg {
     pub version: u8,
     pub flags: u32,
@@ -20,7 +21,7 @@ pub struct Emsg {
 }
 
 // Where each string begins, and where its 0 stands; where the message begins, and where the box ends.
-#[derive(Drop)]
+#[derive(Clone, Copy)]
 pub struct Places {
     pub scheme: usize,
     pub scheme_end: usize,
@@ -30,21 +31,21 @@ pub struct Places {
     pub end: usize,
 }
 
-#[derive(Drop)]
+#[derive(Clone, Copy)]
 pub enum Found {
     Is(Emsg, Places),
     Refused(Refusal),
 }
 
 // Where the 0 of each of two strings stands.
-#[derive(Drop)]
+#[derive(Clone, Copy)]
 pub(crate) enum Strings {
     Are(usize, usize),
     Refused(Refusal),
 }
 
 // The timescale, the time, the duration and the id.
-#[derive(Drop)]
+#[derive(Clone, Copy)]
 pub(crate) enum Numbers {
     Are(u32, u64, u32, u32),
     Refused(Refusal),

@@ -1,3 +1,4 @@
+#![tactic(auto)]
 // The strings and the message of an event message box (ISO/IEC 23009-1, 5.10.3.3), each as the part of the lent bytes
 // where it lies.
 ghost use Rattle.std.specs.Prelude.{◌≡◌};

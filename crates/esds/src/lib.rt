@@ -1,3 +1,4 @@
+#![tactic(auto)]
 // The descriptor of an elementary stream in a box (ISO/IEC 14496-14, 5.6; ES_Descriptor, 14496-1, 7.2.6.5): its fields, then
 // descriptors, of which the DecoderConfig and the SLConfig are kept (A29).
 ghost use Rattle.std.specs.Prelude.{◌≡◌};
@@ -11,13 +12,13 @@ use layout::Field;
 use numbers::{Refusal, U8};
 
 // How the stream is decoded, where that is said.
-#[derive(Drop)]
+#[derive(Clone, Copy)]
 pub enum Decoder {
     Absent,
     Is(Config),
 }
 
-#[derive(Drop)]
+#[derive(Clone, Copy)]
 pub struct Esds {
     pub flags: u32,
     pub stream: Stream,
@@ -27,7 +28,7 @@ pub struct Esds {
 
 // Where the URL, the DecoderSpecificInfo's content and the SLConfig's content begin and end; 0 and 0 for a descriptor that
 // is not there.
-#[derive(Drop)]
+#[derive(Clone, Copy)]
 pub struct Places {
     pub url: usize,
     pub url_end: usize,
@@ -37,14 +38,14 @@ pub struct Places {
     pub sl_end: usize,
 }
 
-#[derive(Drop)]
+#[derive(Clone, Copy)]
 pub enum Found {
     Is(Esds, Places),
     Refused(Refusal),
 }
 
 // Where the content of the DecoderSpecificInfo and of the SLConfig begins and ends.
-#[derive(Drop)]
+#[derive(Clone, Copy)]
 pub(crate) struct Parts {
     pub info: usize,
     pub info_end: usize,
@@ -53,7 +54,7 @@ pub(crate) struct Parts {
 }
 
 // What stands behind the fields.
-#[derive(Drop)]
+#[derive(Clone, Copy)]
 pub(crate) enum Tail {
     Is(Decoder, bool, Parts),
     Refused(Refusal),

@@ -1,3 +1,4 @@
+#![tactic(auto)]
 // The parts of an elementary stream's descriptor in a box (`esds`), each lent where it lies.
 ghost use Rattle.std.specs.Prelude.{◌≡◌};
 ghost use Rattle.esds.specs.Esds.{url_of, info_of, sl_of};

@@ -1,3 +1,4 @@
+#![tactic(auto)]
 // An elementary stream's descriptor in a box (`esds`), written: its fields, then the DecoderConfig and the SLConfig, where it
 // has them, each length in its shortest form.
 ghost use Rattle.std.specs.Prelude.{◌≡◌, true, ◌+◌, ◌≤◌, length};

@@ -1,3 +1,4 @@
+#![tactic(auto)]
 // The fields of an ES_Descriptor (ISO/IEC 14496-1, 7.2.6.5), of which its flags say which are there (A29).
 ghost use Rattle.std.specs.Prelude.{◌≡◌, ◌+◌, ◌^◌, ◌≤◌, ◌<◌, length, ltb};
 ghost use Rattle.std.proofs.lemmas.List.Edits.{sets};
@@ -10,7 +11,7 @@ use put::Put;
 
 // The stream's number and flags, the stream that it depends on, and the one that has its clock. A number that the flags
 // leave out is 0.
-#[derive(Drop)]
+#[derive(Clone, Copy)]
 pub struct Stream {
     pub id: u16,
     pub flags: u8,
@@ -19,7 +20,7 @@ pub struct Stream {
 }
 
 // The record, where the URL begins and ends, and the position after the fields.
-#[derive(Drop)]
+#[derive(Clone, Copy)]
 pub enum Found {
     Is(Stream, usize, usize, usize),
     Refused(Refusal),

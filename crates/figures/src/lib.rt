@@ -1,3 +1,4 @@
+#![tactic(auto)]
 // What a track tells of itself, in twelve words.
 ghost use Rattle.std.specs.Prelude.{◌≡◌, [], ◌∷◌, ◌+◌, ◌≤◌, length};
 ghost use Rattle.std.proofs.lemmas.List.Edits.{sets};
@@ -13,7 +14,7 @@ use tkhd::Tkhd;
 
 // The duration is in units of the timescale; width and height are raw 16.16; handler and entry are four letters each, the
 // entry 0 where there is none.
-#[derive(Drop)]
+#[derive(Clone, Copy)]
 pub struct Figures {
     pub number: u64,
     pub handler: u64,
@@ -30,7 +31,7 @@ pub struct Figures {
 }
 
 // The figures, or the first refusal.
-#[derive(Drop)]
+#[derive(Clone, Copy)]
 pub enum Told {
     Is(Figures),
     Refused(Refusal),

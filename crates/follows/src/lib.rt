@@ -1,3 +1,4 @@
+#![tactic(auto)]
 // Whether fragments follow on, in number and in time (01, Fragments; A34, A42): by the moofs and the runs of a file, which
 // are lent as tables (crates `mooftable` and `runtable`). One pass, moof by moof: first its number, then the times by track.
 // The first finding is kept and the walk goes on, since a gap further on may not fit (A13).
@@ -15,7 +16,7 @@ use runs::Run;
 use verdicts::Finding;
 
 // Over: a gap does not fit 64 signed bits (refusal 9).
-#[derive(Drop)]
+#[derive(Clone, Copy)]
 pub enum Followed {
     Over,
     Passes,
@@ -23,7 +24,7 @@ pub enum Followed {
 }
 
 // The run of a track before: whether there is one, when it began, and how long it lasts.
-#[derive(Drop)]
+#[derive(Clone, Copy)]
 struct Before {
     some: bool,
     time: u64,
@@ -31,14 +32,14 @@ struct Before {
 }
 
 // What is known behind some runs of a track.
-#[derive(Drop)]
+#[derive(Clone, Copy)]
 struct Walk {
     before: Before,
     told: Followed,
 }
 
 // What is known of all tracks.
-#[derive(Drop)]
+#[derive(Clone, Copy)]
 struct Walks {
     befores: [Before; 4],
     told: Followed,

@@ -1,3 +1,4 @@
+#![tactic(auto)]
 // The samples of one track of a fragmented file: those of its runs, one run after the other. The runs of a file are lent
 // as a table (crate `runtable`), of all tracks, in the order of the file. A lane passes over the rows of other tracks and
 // visits each row once.
@@ -14,7 +15,7 @@ use samples::Sample;
 use trun::Trun;
 
 // next: the next row; run: the one before it that is the track's, and inside: the cursor in it.
-#[derive(Drop)]
+#[derive(Clone, Copy)]
 pub struct Lane {
     pub next: usize,
     pub run: Run,
@@ -22,7 +23,7 @@ pub struct Lane {
 }
 
 // Over: a sample's end passes 2^64 - 1, its time is 2^63 or more, or its number passes 2^32 - 1 (refusal 9).
-#[derive(Drop)]
+#[derive(Clone, Copy)]
 pub enum Taken {
     One { sample: Sample, lane: Lane },
     End,

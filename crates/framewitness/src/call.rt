@@ -1,7 +1,7 @@
 // What the first argument asks for. An option is one only there, so that any later argument is a file.
 use crate::say;
 
-#[derive(Drop)]
+#[derive(Clone, Copy)]
 pub(crate) enum Call {
     Help,
     List,
@@ -10,7 +10,7 @@ pub(crate) enum Call {
 }
 
 // What is wrong with a call.
-#[derive(Drop)]
+#[derive(Clone, Copy)]
 pub(crate) enum Misuse {
     NoFile,
     NotOneFile,

@@ -1,3 +1,4 @@
+#![tactic(auto)]
 // Audits each file that an argument names, and writes a line for each to standard output, in their order: its name and
 // the verdict, or why it was not read. `--list` as the first argument writes the samples of one file instead, `--help`
 // explains the verdicts; behind `--` every argument is a file. At its end it writes one digit to descriptor 3, which the
@@ -16,7 +17,7 @@ use source::{Source, Unread};
 use verdicts::Audited;
 
 // What is told of a file: its verdict, or its samples.
-#[derive(Drop)]
+#[derive(Clone, Copy)]
 enum Task {
     Audit,
     List,

@@ -3,7 +3,7 @@
 // The most bytes that are read of a file.
 const MOST: i64 = 4194304;
 
-#[derive(Drop)]
+#[derive(Clone, Copy)]
 pub(crate) enum Unread {
     Unopened,
     Directory,
@@ -12,7 +12,7 @@ pub(crate) enum Unread {
     NotWhole,
 }
 
-#[derive(Drop)]
+#[derive(Clone, Copy)]
 pub(crate) enum Source {
     Sized(usize),
     Not(Unread),

@@ -1,3 +1,4 @@
+#![tactic(auto)]
 // The records of new sample entries and of the boxes that they hold, for a writer that has no file to take them from.
 ghost use Rattle.std.specs.Prelude.{◌≡◌};
 ghost use Rattle.fresh.specs.Fresh.{fresh_visual, fresh_avcc, fresh_vpcc, fresh_tx3g, rate_of, fresh_mp4a, fresh_esds};
@@ -13,7 +14,7 @@ use visual::Visual;
 use vpcc::Vpcc;
 
 // An avcC, or why there is none.
-#[derive(Drop)]
+#[derive(Clone, Copy)]
 pub enum Made {
     Is(Avcc),
     Refused(Refusal),

@@ -1,3 +1,4 @@
+#![tactic(auto)]
 // How far a fragment begins after the time at which it is due, or before it.
 ghost use Rattle.std.specs.Prelude.{◌≡◌};
 ghost use Rattle.gaps.specs.Gaps.{gap_of, behind};
@@ -8,7 +9,7 @@ use samples::TIME_BOUND;
 const LAST: u64 = 0xFFFF_FFFF_FFFF_FFFF;
 
 // Over: a time is 2^63 or more, or the gap is no signed number of 64 bits (refusal 9).
-#[derive(Drop)]
+#[derive(Clone, Copy)]
 pub enum Gap {
     Is(i64),
     Over,

@@ -1,3 +1,4 @@
+#![tactic(auto)]
 // The handler of a track (ISO/IEC 14496-12, 8.4.3): four letters of any kind (A26), and a name, which is the rest of
 // the box.
 ghost use Rattle.std.specs.Prelude.{◌≡◌};
@@ -8,14 +9,14 @@ use layout::Field;
 use numbers::Refusal;
 use put::Put;
 
-#[derive(Drop)]
+#[derive(Clone, Copy)]
 pub struct Hdlr {
     pub version: u8,
     pub flags: u32,
     pub handler_type: u32,
 }
 
-#[derive(Drop)]
+#[derive(Clone, Copy)]
 pub enum Found {
     Is(Hdlr),
     Refused(Refusal),

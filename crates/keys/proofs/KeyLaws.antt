@@ -35,9 +35,9 @@ use Rattle.stsz.specs.declared.Found.TheVariants as found-stsz
 use Rattle.trun.specs.Trun as trun
 use Rattle.trun.specs.declared.Trun.{Trun}
 use Rattle.trun.specs.declared.Found.TheVariants as found-trun
-use Rattle.url.specs.Url as url
-use Rattle.url.specs.declared.Url.{Url}
-use Rattle.url.specs.declared.Found.TheVariants as found-url
+use Rattle.url_box.specs.Url as url
+use Rattle.url_box.specs.declared.Url.{Url}
+use Rattle.url_box.specs.declared.Found.TheVariants as found-url
 use Rattle.keys.specs.Key.{key_at, pick_key, keys, key_of}
 use Rattle.keys.specs.declared.Key.TheVariants.{Is}
 use Rattle.keys.proofs.Firsts.{key-in}

@@ -14,7 +14,7 @@ use Rattle.trex.specs.Trex as trex
 use Rattle.tfhd.specs.Tfhd as tfhd
 use Rattle.stsz.specs.Stsz as stsz
 use Rattle.trun.specs.Trun as trun
-use Rattle.url.specs.Url as url
+use Rattle.url_box.specs.Url as url
 use Rattle.keys.specs.declared.Key.{Key}
 use Rattle.keys.specs.declared.Key.TheVariants.{Absent, Is}
 

@@ -1,3 +1,4 @@
+#![tactic(auto)]
 // The number of a box that is held against other boxes, and where it stands. It is read from the fields up to it, so
 // what lies behind it may be cut or wrong.
 ghost use Rattle.std.specs.Prelude.{◌≡◌, [], ◌∷◌, ◌<◌, set};
@@ -9,7 +10,7 @@ use layout::Field;
 use places::kinds;
 
 // The value, and the position of its field from the part's start on.
-#[derive(Drop)]
+#[derive(Clone, Copy)]
 pub enum Key {
     Absent,
     Is(u64, usize),

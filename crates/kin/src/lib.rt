@@ -1,3 +1,4 @@
+#![tactic(auto)]
 // What a recorded box has to do with those before it.
 ghost use Rattle.std.specs.Prelude.{◌≡◌, ◌<◌};
 ghost use Rattle.kin.specs.Before.{some};

@@ -1,3 +1,4 @@
+#![tactic(auto)]
 // The samples of one track, from its tables as they lie in the file. A lane is a cursor by value: it gives one sample
 // after the other, visits each entry of each table once, and never goes back to the start of a table.
 ghost use Rattle.std.specs.Prelude.{◌≡◌, ◌<◌, drop, eqb};
@@ -15,7 +16,7 @@ use tables::{Chunks, Optional, Rows, Track};
 pub mod site;
 
 // A cursor over runs: the next row, how many of the row before are left, and their value.
-#[derive(Drop)]
+#[derive(Clone, Copy)]
 pub struct Runs {
     pub next: u32,
     pub left: u64,
@@ -24,7 +25,7 @@ pub struct Runs {
 
 // A cursor over chunks: how many samples of the chunk are left, where the next one lies, the next chunk, and the
 // runs of stsc.
-#[derive(Drop)]
+#[derive(Clone, Copy)]
 pub struct Place {
     pub left: u32,
     pub at: u64,
@@ -133,7 +134,7 @@ fn place_ready(file: &[u8], rows: Rows, t: Chunks, p: Place) -> Place
 }
 
 // A composition offset, and the cursor after it.
-#[derive(Drop)]
+#[derive(Clone, Copy)]
 struct Shift {
     pub value: u32,
     pub rest: Runs,
@@ -168,7 +169,7 @@ fn shift_next(file: &[u8], o: Optional, c: Runs) -> Shift
 }
 
 // A cursor over stss: the next entry, and the number of the one before it, until that sample has come; 0 where it has.
-#[derive(Drop)]
+#[derive(Clone, Copy)]
 pub struct Marks {
     pub next: u32,
     pub number: u32,
@@ -219,7 +220,7 @@ fn unless_it_is(mark: u32, number: u32) -> u32
 }
 
 // done: how many samples were given; time: the next one's.
-#[derive(Drop)]
+#[derive(Clone, Copy)]
 pub struct Lane {
     pub done: u32,
     pub time: u64,
@@ -230,7 +231,7 @@ pub struct Lane {
 }
 
 // Over: a sample's end passes 2^64 - 1, or its time is 2^63 or more (refusal 9).
-#[derive(Drop)]
+#[derive(Clone, Copy)]
 pub enum Taken {
     One { sample: Sample, lane: Lane },
     End,

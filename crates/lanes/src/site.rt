@@ -12,14 +12,14 @@ use samples::LAST;
 use tables::{Chunks, Rows, Track};
 
 // done: how many samples were passed.
-#[derive(Drop)]
+#[derive(Clone, Copy)]
 pub struct Site {
     pub done: u32,
     pub place: Place,
 }
 
 // Over: a sample's end passes 2^64 - 1 (refusal 9).
-#[derive(Drop)]
+#[derive(Clone, Copy)]
 pub enum Stood {
     One {
         number: u32,

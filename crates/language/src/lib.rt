@@ -1,10 +1,11 @@
+#![tactic(auto)]
 // The language of a track: three letters in 15 bits (ISO/IEC 14496-12, 8.4.2.3).
 ghost use Rattle.std.specs.Prelude.{◌≡◌};
 ghost use Rattle.language.specs.Language.{letters_of, five, code_of};
 
 use numbers::{Refusal, U8, U16};
 
-#[derive(Drop)]
+#[derive(Clone, Copy)]
 pub struct Letters {
     pub first: u8,
     pub second: u8,

@@ -1,10 +1,11 @@
+#![tactic(auto)]
 // A box as a row of fields: one reader for any row. One writer for any row stands beside it (`layout_write`).
 pub mod read;
 pub mod rule;
 pub mod table;
 
 // What a box has at a place. Widths are in bytes, 8 at most.
-#[derive(Drop)]
+#[derive(Clone, Copy)]
 pub enum Field {
     // a number of this width
     Number(u8),
@@ -24,7 +25,7 @@ pub enum Field {
 }
 
 // The bytes of a row, unless a value can not be written.
-#[derive(Drop)]
+#[derive(Clone, Copy)]
 pub struct Coded {
     pub ok: bool,
     pub len: usize,

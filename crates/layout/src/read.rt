@@ -8,7 +8,7 @@ use boxes::header::Found;
 use numbers::U64;
 
 // Fault 0, the position after the last field, the box's end, and the values kept; or the fault and its position.
-#[derive(Drop)]
+#[derive(Clone, Copy)]
 pub struct Fields {
     pub number: u32,
     pub place: usize,

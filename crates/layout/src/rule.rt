@@ -4,7 +4,7 @@ ghost use Rattle.layout.specs.Rule.{plain, is_set, rule_of};
 
 use crate::Field;
 
-#[derive(Drop)]
+#[derive(Clone, Copy)]
 pub struct Rule {
     pub width: usize,
     pub low: u64,

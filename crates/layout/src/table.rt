@@ -2,7 +2,7 @@
 ghost use Rattle.std.specs.Prelude.{◌≡◌};
 ghost use Rattle.layout.specs.Table.{cut_of};
 
-#[derive(Drop)]
+#[derive(Clone, Copy)]
 pub enum Cut {
     Whole,
     At(usize),

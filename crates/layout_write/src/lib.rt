@@ -1,3 +1,4 @@
+#![tactic(auto)]
 // Writing a box that is a row of fields (`layout`): its fields' bytes first, in an array of its own; then header, fields
 // and tail into the lent buffer.
 ghost use Rattle.std.specs.Prelude.{◌≡◌, [], ◌≤◌, length};

@@ -1,3 +1,4 @@
+#![tactic(auto)]
 // Lists the samples of each stbl of the packs that the arguments name, and looks them up.
 // A pack is a row of entries: a length in four bytes, the highest first, and as many bytes, an stbl from its header on.
 // For each entry there is a line `refused` with the number and the detail; or `track` with the count and the bytes of its

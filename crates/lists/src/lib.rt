@@ -1,3 +1,4 @@
+#![tactic(auto)]
 // The samples of a track as its tables tell them: how many there are, and all of them as records in a lent buffer.
 ghost use Rattle.std.specs.Prelude.{◌≡◌, true};
 ghost use Rattle.tables.specs.Tables.{chunks};
@@ -19,7 +20,7 @@ const MANY: u32 = 0x8000_0000;
 const HALF: u64 = 0x8000_0000_0000_0000;
 
 // How many samples a track has. Over: one of them does not fit (refusal 9).
-#[derive(Drop)]
+#[derive(Clone, Copy)]
 pub enum Counted {
     Is(usize),
     Over,

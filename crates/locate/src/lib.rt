@@ -1,3 +1,4 @@
+#![tactic(auto)]
 // One sample of a track by its number: where it lies, and when it is shown. From the tables as they lie in the file, entries
 // passed over whole; the sizes of one chunk are all that is visited sample by sample.
 ghost use Rattle.std.specs.Prelude.{◌≡◌, [], ◌∷◌, ◌+◌, leb};

@@ -1,3 +1,4 @@
+#![tactic(auto)]
 // How many samples a track has, the bytes of all, and whether one is sync: from the tables as they lie in the file, entries
 // passed over whole.
 ghost use Rattle.std.specs.Prelude.{◌≡◌, min, length, take};
@@ -12,7 +13,7 @@ use seek::{Spot, Value};
 use tables::{Optional, Table, Track};
 
 // Whether a sample is sync, or the refusal.
-#[derive(Drop)]
+#[derive(Clone, Copy)]
 pub enum Synced {
     Is(bool),
     Refused(Refusal),

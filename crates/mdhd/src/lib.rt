@@ -1,3 +1,4 @@
+#![tactic(auto)]
 // The media header (ISO/IEC 14496-12, 8.4.2). Times and duration are wider in version 1; a timescale of 0 is 8.
 ghost use Rattle.std.specs.Prelude.{◌≡◌};
 ghost use Rattle.put.specs.Put.{wrote};
@@ -7,7 +8,7 @@ use layout::Field;
 use numbers::Refusal;
 use put::Put;
 
-#[derive(Drop)]
+#[derive(Clone, Copy)]
 pub struct Mdhd {
     pub version: u8,
     pub flags: u32,
@@ -18,7 +19,7 @@ pub struct Mdhd {
     pub language: u16,
 }
 
-#[derive(Drop)]
+#[derive(Clone, Copy)]
 pub enum Found {
     Is(Mdhd),
     Refused(Refusal),

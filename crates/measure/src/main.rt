@@ -1,3 +1,4 @@
+#![tactic(auto)]
 // Does work that can be counted, with the tables of one stbl box, which it reads from its standard input. Each argument
 // is one round: `list` lists all samples into a lent buffer, `look` looks each of them up, `sync` asks of each whether it
 // is sync. Last it writes a number that all answers go into, so that none of them can be left out.

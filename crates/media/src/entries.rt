@@ -4,7 +4,7 @@ ghost use Rattle.media.specs.Entries.{media_of, entry_of};
 
 use numbers::Refusal;
 
-#[derive(Drop)]
+#[derive(Clone, Copy)]
 pub enum Media {
     H264,
     H265,
@@ -13,7 +13,7 @@ pub enum Media {
     TTXT,
 }
 
-#[derive(Drop)]
+#[derive(Clone, Copy)]
 pub enum Told {
     Is(Media),
     Refused(Refusal),

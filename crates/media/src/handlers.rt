@@ -4,14 +4,14 @@ ghost use Rattle.media.specs.Handlers.{kind_of, letters_of};
 
 use numbers::Refusal;
 
-#[derive(Drop)]
+#[derive(Clone, Copy)]
 pub enum Kind {
     Video,
     Audio,
     Subtitle,
 }
 
-#[derive(Drop)]
+#[derive(Clone, Copy)]
 pub enum Told {
     Is(Kind),
     Refused(Refusal),

@@ -1,16 +1,17 @@
+#![tactic(auto)]
 // Runs of equal values, merged to the fewest rows. The open run goes in by value with the next value and comes back.
 ghost use Rattle.std.specs.Prelude.{◌≡◌};
 ghost use Rattle.merging.specs.Merging.{fresh, closed_by, step_of, finish_of, open_of};
 
 // The run that is not closed yet: so many of one value. One that counts 0 has no value yet.
-#[derive(Drop)]
+#[derive(Clone, Copy)]
 pub struct Open {
     pub count: u32,
     pub value: u32,
 }
 
 // What a value does to the open run: it makes it longer, or it closes it and opens another.
-#[derive(Drop)]
+#[derive(Clone, Copy)]
 pub enum Step {
     Longer(Open),
     Closed { run: Open, open: Open },

@@ -1,3 +1,4 @@
+#![tactic(auto)]
 // The movie fragment header (ISO/IEC 14496-12, 8.8.5).
 ghost use Rattle.std.specs.Prelude.{◌≡◌};
 ghost use Rattle.put.specs.Put.{wrote};
@@ -7,14 +8,14 @@ use layout::Field;
 use numbers::Refusal;
 use put::Put;
 
-#[derive(Drop)]
+#[derive(Clone, Copy)]
 pub struct Mfhd {
     pub version: u8,
     pub flags: u32,
     pub sequence_number: u32,
 }
 
-#[derive(Drop)]
+#[derive(Clone, Copy)]
 pub enum Found {
     Is(Mfhd),
     Refused(Refusal),

@@ -1,3 +1,4 @@
+#![tactic(auto)]
 // A fragment of a movie (ISO/IEC 14496-12, 8.8.4): boxes, and where its header and the first track's part lie.
 ghost use Rattle.std.specs.Prelude.{◌≡◌};
 ghost use Rattle.moof.specs.Moof.{moof_of};
@@ -7,13 +8,13 @@ use numbers::Refusal;
 use places::kinds;
 use rows::Judged;
 
-#[derive(Drop)]
+#[derive(Clone, Copy)]
 pub struct Moof {
     pub mfhd: Place,
     pub traf: Place,
 }
 
-#[derive(Drop)]
+#[derive(Clone, Copy)]
 pub enum Found {
     Is(Moof),
     Refused(Refusal),

@@ -1,3 +1,4 @@
+#![tactic(auto)]
 // The fragments of a file, by the boxes that are recorded in the tables: every moof and every run as a row of a lent table.
 ghost use Rattle.std.specs.Prelude.{◌≡◌, ◌<◌, ◌≤◌, ◌+◌, min};
 ghost use Rattle.places.specs.Visit.{box_limit};
@@ -18,7 +19,7 @@ use runs::DataEnd;
 use runstarts::Made;
 
 // How many rows there are in each table.
-#[derive(Drop)]
+#[derive(Clone, Copy)]
 pub enum Filled {
     Are { runs: usize, moofs: usize },
     Refused(Refusal),
@@ -26,7 +27,7 @@ pub enum Filled {
 
 // inside: whether there was a moof; start: its first byte; first: whether its first traf is still to come; previous: where
 // the data of the traf before end; runs and moofs: how many rows there are so far.
-#[derive(Drop)]
+#[derive(Clone, Copy)]
 struct State {
     inside: bool,
     start: u64,
@@ -36,7 +37,7 @@ struct State {
     moofs: usize,
 }
 
-#[derive(Drop)]
+#[derive(Clone, Copy)]
 enum Step {
     On(State),
     Refused(Refusal),

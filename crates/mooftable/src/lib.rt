@@ -1,3 +1,4 @@
+#![tactic(auto)]
 // Moofs as rows of numbers in a lent table, since that is what can be lent: a row for each moof of a file, in the order of
 // the file.
 ghost use Rattle.std.specs.Prelude.{◌≡◌, ◌%◌, ◌^◌};
@@ -13,14 +14,14 @@ pub const ROW: usize = 3;
 const LAST: usize = 0xffff_ffff_ffff_ffff;
 
 // start: the first byte of the moof; number: its sequence number; runs: the row of its first run in the table of runs.
-#[derive(Drop)]
+#[derive(Clone, Copy)]
 pub struct Moof {
     pub start: u64,
     pub number: u32,
     pub runs: usize,
 }
 
-#[derive(Drop)]
+#[derive(Clone, Copy)]
 pub enum Found {
     Is(Moof),
     Missing,

@@ -1,3 +1,4 @@
+#![tactic(auto)]
 // The audit of a movie: of its tracks, its media data and its fragments, as its boxes tell them.
 ghost use Rattle.std.specs.Prelude.{◌≡◌, ◌&&◌, ◌≤◌, min, take};
 ghost use Rattle.kin.specs.Kin.{boxes, track_limit};
@@ -25,7 +26,7 @@ use verdicts::{Asked, Audited, Finding};
 const LAST: u64 = 0xFFFF_FFFF_FFFF_FFFF;
 
 // The bytes of all media data, or that they are no 64-bit number.
-#[derive(Drop)]
+#[derive(Clone, Copy)]
 enum Sum {
     Is(u64),
     Over,

@@ -1,3 +1,4 @@
+#![tactic(auto)]
 // The sample entry of MPEG-4 audio (AudioSampleEntry of version 0, ISO/IEC 14496-12, 12.2.3; MP4AudioSampleEntry,
 // 14496-14, 5.6): an index, three numbers of the sound, and boxes, which are the rest of the box.
 ghost use Rattle.std.specs.Prelude.{◌≡◌};
@@ -9,7 +10,7 @@ use numbers::Refusal;
 use put::Put;
 
 // The rate has 16 bits before the point, and 16 behind it.
-#[derive(Drop)]
+#[derive(Clone, Copy)]
 pub struct Mp4a {
     pub data_reference_index: u16,
     pub channelcount: u16,
@@ -17,7 +18,7 @@ pub struct Mp4a {
     pub samplerate: u32,
 }
 
-#[derive(Drop)]
+#[derive(Clone, Copy)]
 pub enum Found {
     Is(Mp4a),
     Refused(Refusal),

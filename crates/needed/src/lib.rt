@@ -1,3 +1,4 @@
+#![tactic(auto)]
 // The first needed box that a file lacks, by the boxes that are recorded in the tables.
 ghost use Rattle.std.specs.Prelude.{◌≡◌, ◌≤◌, min};
 ghost use Rattle.places.specs.Visit.{box_limit};
@@ -12,7 +13,7 @@ pub mod parent;
 pub mod traks;
 
 // The four letters of a box, as the number that they are.
-#[derive(Drop)]
+#[derive(Clone, Copy)]
 pub enum Missing {
     Nothing,
     Box(u32),

@@ -1,3 +1,4 @@
+#![tactic(auto)]
 // Numbers in a slice of bytes, the highest byte first.
 // Every reader answers for every position: the number, or refusal 1 at that position where the bytes end.
 ghost use Rattle.std.specs.Prelude.{◌≡◌, ◌+◌, ◌-◌, ◌≤◌, ◌<◌, length};
@@ -5,31 +6,31 @@ ghost use Rattle.numbers.specs.Number.{be};
 ghost use Rattle.numbers.specs.Field.{refusal, field, fits, number_of};
 
 // A refusal's number, and what it says besides: a position, a length, a type, or 0.
-#[derive(Drop)]
+#[derive(Clone, Copy)]
 pub struct Refusal {
     pub number: u32,
     pub detail: usize,
 }
 
-#[derive(Drop)]
+#[derive(Clone, Copy)]
 pub enum U8 {
     Is(u8),
     Refused(Refusal),
 }
 
-#[derive(Drop)]
+#[derive(Clone, Copy)]
 pub enum U16 {
     Is(u16),
     Refused(Refusal),
 }
 
-#[derive(Drop)]
+#[derive(Clone, Copy)]
 pub enum U32 {
     Is(u32),
     Refused(Refusal),
 }
 
-#[derive(Drop)]
+#[derive(Clone, Copy)]
 pub enum U64 {
     Is(u64),
     Refused(Refusal),

@@ -1,3 +1,4 @@
+#![tactic(auto)]
 // What is told of one track of a file, from the file's bytes: its number, its samples, one of them, or its figures.
 ghost use Rattle.std.specs.Prelude.{◌≡◌, ◌<◌, ◌≤◌};
 ghost use Rattle.kin.specs.Kin.{boxes};
@@ -20,7 +21,7 @@ use tracksamples::Source;
 use tree::Scanned;
 
 // What is asked of a track: its number, all its samples, the one of a number, or its figures.
-#[derive(Drop)]
+#[derive(Clone, Copy)]
 pub enum Question {
     Number,
     List,

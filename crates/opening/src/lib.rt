@@ -1,3 +1,4 @@
+#![tactic(auto)]
 // Why a file is refused by its boxes, which are recorded in the tables.
 ghost use Rattle.std.specs.Prelude.{◌≡◌, min};
 ghost use Rattle.places.specs.Visit.{box_limit};

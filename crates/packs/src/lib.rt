@@ -1,3 +1,4 @@
+#![tactic(auto)]
 // Packs: items one behind the other, each a length in four bytes, the highest first, and as many bytes.
 ghost use Rattle.std.specs.Prelude.{◌≡◌};
 ghost use Rattle.packs.specs.Packs.{item_of};
@@ -5,7 +6,7 @@ ghost use Rattle.packs.specs.Packs.{item_of};
 use numbers::U32;
 
 // Where an item's bytes begin, and how many they are; or that there is no length, or that the bytes are not all there.
-#[derive(Drop)]
+#[derive(Clone, Copy)]
 pub enum Item {
     End,
     Cut,

@@ -1,3 +1,4 @@
+#![tactic(auto)]
 // A box's bytes in the bytes of a file.
 ghost use Rattle.std.specs.Prelude.{◌≡◌};
 ghost use Rattle.parts.specs.Parts.{part_of};

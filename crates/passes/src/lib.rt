@@ -1,3 +1,4 @@
+#![tactic(auto)]
 // The audit's pass over the samples of a track with tables: whether each of them fits, then F2 and F3, sample by sample.
 // No sample is visited: sizes are read where stsz lists them, and entries of stts are passed over whole.
 ghost use Rattle.std.specs.Prelude.{◌≡◌, take};
@@ -11,7 +12,7 @@ use verdicts::Finding;
 
 // What the pass over a track's samples tells. Over: one of them does not fit (refusal 9). Fine: F2 and F3 find nothing in
 // so many.
-#[derive(Drop)]
+#[derive(Clone, Copy)]
 pub enum Passed {
     Over,
     Fine(usize),

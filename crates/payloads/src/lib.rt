@@ -1,3 +1,4 @@
+#![tactic(auto)]
 // The media data of a file: the payloads of its mdats, by the boxes that are recorded in the tables.
 ghost use Rattle.std.specs.Prelude.{◌≡◌, false, ◌&&◌, ◌<◌, ◌+◌, min, leb, ltb};
 ghost use Rattle.numbers.specs.Field.{when};
@@ -9,7 +10,7 @@ ghost use Rattle.payloads.specs.Payloads.{is_media, header_of, to_of, from_of, p
 use places::kinds;
 
 // The bytes from `from` up to and not with `to`, and the row after their mdat's.
-#[derive(Drop)]
+#[derive(Clone, Copy)]
 pub enum Payload {
     At { from: usize, to: usize, row: usize },
     End,

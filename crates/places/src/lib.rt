@@ -1,3 +1,4 @@
+#![tactic(auto)]
 // One box of a row: its header, the limits, whether it stands in its place, and the row of boxes in it.
 ghost use Rattle.std.specs.Prelude.{◌≡◌, ◌&&◌, ◌+◌, ◌-◌, ◌≤◌, ◌<◌, length};
 ghost use Rattle.numbers.specs.Field.{or_zero};
@@ -18,7 +19,7 @@ pub const DEPTH: usize = 10;
 pub const BOXES: usize = 4096;
 
 // A box as it is recorded.
-#[derive(Drop)]
+#[derive(Clone, Copy)]
 pub struct Node {
     pub start: usize,
     pub size: usize,
@@ -30,7 +31,7 @@ pub struct Node {
 }
 
 // A row of boxes: where it begins, how many there may be, whether that is a count that must be met, and what stands above it.
-#[derive(Drop)]
+#[derive(Clone, Copy)]
 pub struct Row {
     pub at: usize,
     pub entries: usize,
@@ -40,7 +41,7 @@ pub struct Row {
     pub placed: bool,
 }
 
-#[derive(Drop)]
+#[derive(Clone, Copy)]
 pub enum Visited {
     Is(Node, Row),
     Refused(Refusal),

@@ -8,7 +8,7 @@ use crate::kinds;
 pub const FILE: u32 = 0;
 
 // A parent, and a type that is read in it.
-#[derive(Drop)]
+#[derive(Clone, Copy)]
 pub struct Place(pub u32, pub u32);
 
 const PLACES: [Place; 40] = [
@@ -86,7 +86,7 @@ fn is_container(kind: u32) -> bool
 }
 
 // What a box holds: no boxes, boxes to its end, or as many as a count says; after how many bytes of content.
-#[derive(Drop)]
+#[derive(Clone, Copy)]
 pub enum Inside {
     Nothing,
     Boxes(usize),

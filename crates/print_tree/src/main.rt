@@ -1,3 +1,4 @@
+#![tactic(auto)]
 // Prints the box tree of each file that an argument names: a line for each box with its depth, type, start, size and
 // whether it stands in its place; then how many there are, or the first fault behind them.
 use libc::STDOUT_FILENO;

@@ -1,10 +1,11 @@
+#![tactic(auto)]
 // The profile of an H.264 stream, by the two bytes of its avcC.
 ghost use Rattle.std.specs.Prelude.{◌≡◌};
 ghost use Rattle.profiles.specs.Profiles.{profile_of};
 
 use numbers::Refusal;
 
-#[derive(Drop)]
+#[derive(Clone, Copy)]
 pub enum Profile {
     ConstrainedBaseline,
     Baseline,
@@ -13,7 +14,7 @@ pub enum Profile {
     High,
 }
 
-#[derive(Drop)]
+#[derive(Clone, Copy)]
 pub enum Told {
     Is(Profile),
     Refused(Refusal),

@@ -1,3 +1,4 @@
+#![tactic(auto)]
 // Writers of numbers into a lent buffer. A refusal leaves the buffer as it was; bytes outside of the number's always stay.
 ghost use Rattle.std.specs.Prelude.{◌≡◌, ◌+◌, ◌-◌, ◌^◌, ◌≤◌, length, ltb};
 ghost use Rattle.std.proofs.lemmas.List.Edits.{sets};
@@ -7,7 +8,7 @@ ghost use Rattle.put.specs.Put.{wrote, placed, put_of};
 use numbers::Refusal;
 
 // The position after what was written, or why nothing was.
-#[derive(Drop)]
+#[derive(Clone, Copy)]
 pub enum Put {
     Done(usize),
     Refused(Refusal),

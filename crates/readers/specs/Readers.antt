@@ -26,9 +26,9 @@ use Rattle.hdlr.specs.declared.Found.TheVariants as hdlr
 use Rattle.dref.specs.Dref.{dref_of}
 use Rattle.dref.specs.declared.Found as dref-found
 use Rattle.dref.specs.declared.Found.TheVariants as dref
-use Rattle.url.specs.Url.{url_of}
-use Rattle.url.specs.declared.Found as url-found
-use Rattle.url.specs.declared.Found.TheVariants as url
+use Rattle.url_box.specs.Url.{url_of}
+use Rattle.url_box.specs.declared.Found as url-found
+use Rattle.url_box.specs.declared.Found.TheVariants as url
 use Rattle.stsd.specs.Stsd.{stsd_of}
 use Rattle.stsd.specs.declared.Found as stsd-found
 use Rattle.stsd.specs.declared.Found.TheVariants as stsd

@@ -1,3 +1,4 @@
+#![tactic(auto)]
 // What the reader of a box of any type refuses; those of sample entries and their configurations stand in `codings`. A type
 // whose content is not read is fine.
 ghost use Rattle.std.specs.Prelude.{◌≡◌};
@@ -8,7 +9,7 @@ ghost use Rattle.tkhd.specs.Tkhd.{tkhd_of};
 ghost use Rattle.elst.specs.Elst.{elst_of};
 ghost use Rattle.hdlr.specs.Hdlr.{hdlr_of};
 ghost use Rattle.dref.specs.Dref.{dref_of};
-ghost use Rattle.url.specs.Url.{url_of};
+ghost use Rattle.url_box.specs.Url.{url_of};
 ghost use Rattle.stsd.specs.Stsd.{stsd_of};
 ghost use Rattle.stts.specs.Stts.{stts_of};
 ghost use Rattle.ctts.specs.Ctts.{ctts_of};
@@ -95,9 +96,9 @@ fn dref(part: &[u8]) -> Judged
 fn url(part: &[u8]) -> Judged
     ensures { result ≡ url_fault (url_of part.now) }
 {
-    match url::read(part) {
-        url::Found::Is(_) => Judged::Fine,
-        url::Found::Refused(q) => Judged::Wrong(q),
+    match url_box::read(part) {
+        url_box::Found::Is(_) => Judged::Fine,
+        url_box::Found::Refused(q) => Judged::Wrong(q),
     }
 }
 

@@ -1,3 +1,4 @@
+#![tactic(auto)]
 // What a track that is being written has so far, as a record that is lent and changed in place.
 ghost use Rattle.std.specs.Prelude.{◌≡◌};
 ghost use Rattle.record.specs.Growth.{added_to, answer_of, afterwards, outcome, outcome_of, whole_of, all_to};
@@ -9,7 +10,7 @@ use samples::{LAST, TIME_BOUND};
 const SAMPLES: u32 = 65536;
 
 // How many samples there are, their bytes, and how long they last together: the time of the next one.
-#[derive(Drop)]
+#[derive(Clone, Copy)]
 pub struct Track {
     pub samples: u32,
     pub bytes: u64,
@@ -17,14 +18,14 @@ pub struct Track {
 }
 
 // The record with a sample more, or why there is none.
-#[derive(Drop)]
+#[derive(Clone, Copy)]
 pub enum More {
     Is(Track),
     Refused(Refusal),
 }
 
 // Whether the lent record has the sample, or why it is as it was.
-#[derive(Drop)]
+#[derive(Clone, Copy)]
 pub enum Put {
     Done,
     Refused(Refusal),

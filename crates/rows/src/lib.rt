@@ -1,3 +1,4 @@
+#![tactic(auto)]
 // The entries of a table, judged where they lie: each field first whole, then allowed, entry after entry.
 ghost use Rattle.std.specs.Prelude.{◌≡◌, min};
 ghost use Rattle.rows.specs.Rows.{width_of, time_of, allowed_of, last_of, entry_of, entries_of};
@@ -5,7 +6,7 @@ ghost use Rattle.rows.specs.Rows.{width_of, time_of, allowed_of, last_of, entry_
 use numbers::{Refusal, U64};
 
 // A field of an entry. Widths are in bytes, 8 at most.
-#[derive(Drop)]
+#[derive(Clone, Copy)]
 pub enum Cell {
     // a number of this width
     Any(u8),
@@ -20,14 +21,14 @@ pub enum Cell {
     Nothing,
 }
 
-#[derive(Drop)]
+#[derive(Clone, Copy)]
 pub enum Judged {
     Fine,
     Wrong(Refusal),
 }
 
 // Behind an entry: the position, and the rising number in it.
-#[derive(Drop)]
+#[derive(Clone, Copy)]
 pub enum Passed {
     Next(usize, u64),
     Wrong(Refusal),

@@ -1,3 +1,4 @@
+#![tactic(auto)]
 // The bytes of all samples of a track of a fragmented file: the rows are walked, and the sizes of each run added.
 ghost use Rattle.std.specs.Prelude.{◌≡◌, ◌+◌};
 ghost use Rattle.samples.specs.Lists.{bytes_of};

@@ -1,3 +1,4 @@
+#![tactic(auto)]
 // The samples of a track of a fragmented file, as its runs tell them: all of them as records in a lent buffer.
 ghost use Rattle.std.specs.Prelude.{◌≡◌};
 ghost use Rattle.numbers.specs.Field.{refusal};

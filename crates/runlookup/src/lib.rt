@@ -1,3 +1,4 @@
+#![tactic(auto)]
 // How many samples a track of a fragmented file has, one of them by its number, and whether it is sync: the rows are walked
 // by their counts, then, for the sample, those of one run.
 ghost use Rattle.std.specs.Prelude.{◌≡◌, drop};
@@ -17,7 +18,7 @@ use samples::{Found, Located};
 const LAST: u64 = 0xFFFF_FFFF_FFFF_FFFF;
 
 // A number of samples or of bytes, or that it passes 2^64 - 1.
-#[derive(Drop)]
+#[derive(Clone, Copy)]
 pub enum Tally {
     Is(u64),
     Over,
@@ -55,7 +56,7 @@ pub fn count(table: &[u64], n: usize, track: u32) -> Tally
 }
 
 // A sample's place: its run, how many samples of the track come before the run, and how many in it.
-#[derive(Drop)]
+#[derive(Clone, Copy)]
 enum Place {
     At { run: Run, earlier: u32, index: u32 },
     Missing,

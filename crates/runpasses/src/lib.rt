@@ -1,3 +1,4 @@
+#![tactic(auto)]
 // The audit's pass over the samples of a track of a fragmented file: whether each of them fits, then F2 and F3, sample by
 // sample. One walk over the runs, to their end, since a sample behind a finding may not fit.
 ghost use Rattle.std.specs.Prelude.{◌≡◌};

@@ -1,3 +1,4 @@
+#![tactic(auto)]
 // One run of samples of a fragmented file (ISO/IEC 14496-12, 8.8.8), walked sample by sample. A sample's own values are
 // read where the trun lies in the file; what it does not say of itself comes from the run.
 ghost use Rattle.std.specs.Prelude.{◌≡◌, drop};
@@ -25,7 +26,7 @@ const NOT_SYNC_BIT: u32 = 0x10000;
 
 // start: where the first sample's data lie; time: its decode time; at: where the entries of the trun begin; duration,
 // size and flags: of a sample that does not say its own.
-#[derive(Drop)]
+#[derive(Clone, Copy)]
 pub struct Run {
     pub track: u32,
     pub start: u64,
@@ -102,7 +103,7 @@ pub fn sync_at(file: &[u8], run: Run, i: u32) -> bool
 
 // A cursor in a run. index: the next sample, counted from 0 in the run; number: how many samples came before it, in this
 // run and before it; offset and time: its own.
-#[derive(Drop)]
+#[derive(Clone, Copy)]
 pub struct Lane {
     pub index: u32,
     pub number: u32,
@@ -111,7 +112,7 @@ pub struct Lane {
 }
 
 // Over: a sample's end passes 2^64 - 1, its time is 2^63 or more, or its number passes 2^32 - 1 (refusal 9).
-#[derive(Drop)]
+#[derive(Clone, Copy)]
 pub enum Taken {
     One { sample: Sample, lane: Lane },
     End,
@@ -176,7 +177,7 @@ pub fn next(file: &[u8], run: Run, lane: Lane) -> Taken
 }
 
 // Where a run's data end, or that they pass 2^64 - 1.
-#[derive(Drop)]
+#[derive(Clone, Copy)]
 pub enum DataEnd {
     At(u64),
     Over,

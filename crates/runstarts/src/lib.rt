@@ -1,3 +1,4 @@
+#![tactic(auto)]
 // What a run of samples begins with (ISO/IEC 14496-12, 8.8.7 and 8.8.8), from the boxes that tell of it: the base of its
 // data offset, where its data begin, its time, and the values of samples that do not say their own.
 ghost use Rattle.std.specs.Prelude.{◌≡◌};
@@ -25,14 +26,14 @@ const MOOF_BIT: u32 = 0x20000;
 // The flag of trun.
 const DATA_OFFSET_BIT: u32 = 0x1;
 
-#[derive(Drop)]
+#[derive(Clone, Copy)]
 pub enum Made {
     Is(Run),
     Refused(Refusal),
 }
 
 // Where a run's data begin: in the file's positions, or not.
-#[derive(Drop)]
+#[derive(Clone, Copy)]
 enum Start {
     At(u64),
     Outside,

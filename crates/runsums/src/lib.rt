@@ -1,3 +1,4 @@
+#![tactic(auto)]
 // The sums of a run's samples (ISO/IEC 14496-12, 8.8.8): where their data end, and how long they last.
 ghost use Rattle.std.specs.Prelude.{◌≡◌, ◌+◌};
 ghost use Rattle.runs.specs.Values.{duration_at, size_at};

@@ -1,3 +1,4 @@
+#![tactic(auto)]
 // Runs as rows of numbers in a lent table, since that is what can be lent: a row for each run of a file, of all tracks, in
 // the order of the file.
 ghost use Rattle.std.specs.Prelude.{◌≡◌, ◌+◌, ◌%◌, ◌^◌, ◌≤◌, length};
@@ -16,7 +17,7 @@ pub const ROW: usize = 12;
 
 const LAST: usize = 0xffff_ffff_ffff_ffff;
 
-#[derive(Drop)]
+#[derive(Clone, Copy)]
 pub enum Found {
     Is(Run),
     Missing,

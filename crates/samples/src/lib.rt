@@ -1,3 +1,4 @@
+#![tactic(auto)]
 // A sample of a track, wherever it is told: by tables or by runs; and a list of samples as a row of numbers, since that
 // is what can be lent.
 ghost use Rattle.std.specs.Prelude.{◌≡◌};
@@ -6,7 +7,7 @@ ghost use Rattle.samples.specs.Records.{bits_of, bit_of, put_of};
 use numbers::Refusal;
 
 // A sample: numbers count from 1, a composition offset counts from the time.
-#[derive(Drop)]
+#[derive(Clone, Copy)]
 pub struct Sample {
     pub number: u32,
     pub offset: u64,
@@ -19,7 +20,7 @@ pub struct Sample {
 
 // What a lookup tells of a sample: its place, its size and its times. Whether it is sync is asked by itself, since the
 // answer stands in a list that may be long.
-#[derive(Drop)]
+#[derive(Clone, Copy)]
 pub struct Located {
     pub offset: u64,
     pub size: u32,
@@ -29,14 +30,14 @@ pub struct Located {
 }
 
 // A sample by its number, or the refusal.
-#[derive(Drop)]
+#[derive(Clone, Copy)]
 pub enum Found {
     Is(Located),
     Refused(Refusal),
 }
 
 // How many samples were listed, or the refusal.
-#[derive(Drop)]
+#[derive(Clone, Copy)]
 pub enum Listed {
     Done(usize),
     Refused(Refusal),

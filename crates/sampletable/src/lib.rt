@@ -1,3 +1,4 @@
+#![tactic(auto)]
 // The sample table of a track (ISO/IEC 14496-12, 8.5.1), from its samples: a box around the sample descriptions, which are
 // handed in, and the tables. The samples lie in a buffer as records of seven numbers (samples::put).
 ghost use Rattle.std.specs.Prelude.{◌≡◌, ◌+◌, ◌*◌, ◌/◌, ◌^◌, ◌≤◌, ◌<◌, [], ◌∷◌, length};
@@ -12,7 +13,7 @@ use places::kinds;
 use put::Put;
 
 // A table of a track, in the order in which they are written; Offsets is stco or co64.
-#[derive(Drop)]
+#[derive(Clone, Copy)]
 pub enum Table {
     Stts,
     Ctts,

@@ -1,3 +1,4 @@
+#![tactic(auto)]
 // What a track's tables say of one sample, by its number, counted from 0: entries are passed over whole, and no sample
 // is visited on the way. Nothing is refused here.
 ghost use Rattle.std.specs.Prelude.{◌≡◌, ◌≤◌, min, length};
@@ -9,14 +10,14 @@ use numbers::U32;
 use tables::{Rows, Sizes};
 
 // A value and the sum of those before it; or how many there are, where they are too few.
-#[derive(Drop)]
+#[derive(Clone, Copy)]
 pub enum Value {
     At { value: u32, sum: u64 },
     Few(u32),
 }
 
 // A chunk, counted from 0, and how many samples of it come before; or how many there are, where they are too few.
-#[derive(Drop)]
+#[derive(Clone, Copy)]
 pub enum Spot {
     At { chunk: u32, within: u32 },
     Few(u32),

@@ -1,3 +1,4 @@
+#![tactic(auto)]
 // Lists of parameter sets, as a decoder's configuration holds them (ISO/IEC 14496-15, 5.3.3.1.2): each set is its length
 // in two bytes, then so many bytes. A list does not say how many sets it has: its reader is told.
 ghost use Rattle.std.specs.Prelude.{◌≡◌};
@@ -8,7 +9,7 @@ use numbers::{Refusal, U16};
 use put::Put;
 
 // The position after the sets, or why they are not all there.
-#[derive(Drop)]
+#[derive(Clone, Copy)]
 pub enum Found {
     End(usize),
     Refused(Refusal),

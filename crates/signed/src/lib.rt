@@ -1,3 +1,4 @@
+#![tactic(auto)]
 // Signed numbers: two's complement of 2, 4 and 8 bytes.
 ghost use Rattle.std.specs.Prelude.{◌≡◌};
 ghost use Rattle.numbers.specs.Field.{field};
@@ -5,19 +6,19 @@ ghost use Rattle.signed.specs.Signed.{signed, unsigned};
 
 use numbers::{Refusal, U16, U32, U64};
 
-#[derive(Drop)]
+#[derive(Clone, Copy)]
 pub enum I16 {
     Is(i16),
     Refused(Refusal),
 }
 
-#[derive(Drop)]
+#[derive(Clone, Copy)]
 pub enum I32 {
     Is(i32),
     Refused(Refusal),
 }
 
-#[derive(Drop)]
+#[derive(Clone, Copy)]
 pub enum I64 {
     Is(i64),
     Refused(Refusal),

@@ -1,3 +1,4 @@
+#![tactic(auto)]
 // The box of sample tables (ISO/IEC 14496-12, 8.5.1): the tables of a track, from the boxes that hold them. Each box is
 // read by its own reader, in the bytes that it has in the file. The boxes are read in the order in which they stand
 // below, wherever they lie: the first fault in file order is for the file's parse to tell.
@@ -12,14 +13,14 @@ use rows::Judged;
 use tables::{Chunks, Optional, Sizes, Table, Track};
 
 // Where a box lies, where it is there: its first byte and its size.
-#[derive(Drop)]
+#[derive(Clone, Copy)]
 pub enum Span {
     Absent,
     At(usize, usize),
 }
 
 // Where the boxes of a track's tables lie.
-#[derive(Drop)]
+#[derive(Clone, Copy)]
 pub struct Boxes {
     pub stts: Span,
     pub ctts: Span,
@@ -30,7 +31,7 @@ pub struct Boxes {
     pub stss: Span,
 }
 
-#[derive(Drop)]
+#[derive(Clone, Copy)]
 pub enum Found {
     Is(Track),
     Refused(Refusal),
@@ -38,14 +39,14 @@ pub enum Found {
 
 // What was read of a table's box: where its entries lie in the file, how many there are, and the size that all samples
 // have in common, 0 in all boxes but stsz.
-#[derive(Drop)]
+#[derive(Clone, Copy)]
 struct Entries {
     pub at: usize,
     pub count: u32,
     pub common: u32,
 }
 
-#[derive(Drop)]
+#[derive(Clone, Copy)]
 enum Reading {
     Absent,
     Is(Entries),
@@ -195,7 +196,7 @@ fn chunks_at(file: &[u8], stco: Span, co64: Span) -> Reading
 }
 
 // All that is read. Fields in the order in which the first fault wins.
-#[derive(Drop)]
+#[derive(Clone, Copy)]
 struct Readings {
     pub stts: Reading,
     pub ctts: Reading,

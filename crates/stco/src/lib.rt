@@ -1,3 +1,4 @@
+#![tactic(auto)]
 // The chunk offsets (ISO/IEC 14496-12, 8.7.5) in 32 bits: a count, and as many offsets.
 ghost use Rattle.std.specs.Prelude.{◌≡◌};
 ghost use Rattle.put.specs.Put.{wrote};
@@ -8,7 +9,7 @@ use layout::table::Cut;
 use numbers::{Refusal, U32};
 use put::Put;
 
-#[derive(Drop)]
+#[derive(Clone, Copy)]
 pub struct Stco {
     pub version: u8,
     pub flags: u32,
@@ -16,7 +17,7 @@ pub struct Stco {
 }
 
 // The box, and where its entries begin.
-#[derive(Drop)]
+#[derive(Clone, Copy)]
 pub enum Found {
     Is(Stco, usize),
     Refused(Refusal),

@@ -1,9 +1,10 @@
+#![tactic(auto)]
 // Strings that end with a 0.
 ghost use Rattle.std.specs.Prelude.{◌≡◌};
 ghost use Rattle.strings.specs.Text.{text_at};
 
 // Where a string's 0 stands, if it has one.
-#[derive(Drop)]
+#[derive(Clone, Copy)]
 pub enum Text {
     End(usize),
     Cut,

@@ -1,3 +1,4 @@
+#![tactic(auto)]
 // Which chunk has how many samples (ISO/IEC 14496-12, 8.7.4): a count, and as many runs. First chunks begin at 1 and
 // rise strictly, and no run has 0 samples in a chunk (A21).
 ghost use Rattle.std.specs.Prelude.{◌≡◌};
@@ -9,7 +10,7 @@ use numbers::{Refusal, U32};
 use put::Put;
 use rows::{Cell, Judged};
 
-#[derive(Drop)]
+#[derive(Clone, Copy)]
 pub struct Stsc {
     pub version: u8,
     pub flags: u32,
@@ -17,7 +18,7 @@ pub struct Stsc {
 }
 
 // The box, and where its entries begin.
-#[derive(Drop)]
+#[derive(Clone, Copy)]
 pub enum Found {
     Is(Stsc, usize),
     Refused(Refusal),
@@ -99,14 +100,14 @@ pub fn write(stsc: Stsc, entries: &[u8], out: &mut [u8]) -> Put
     short::write::by(out, KIND, ROW, v, entries)
 }
 
-#[derive(Drop)]
+#[derive(Clone, Copy)]
 pub struct Run {
     pub first_chunk: u32,
     pub samples_per_chunk: u32,
     pub sample_description_index: u32,
 }
 
-#[derive(Drop)]
+#[derive(Clone, Copy)]
 pub enum Listed {
     Is(Run),
     Refused(Refusal),

@@ -1,3 +1,4 @@
+#![tactic(auto)]
 // How the samples of a track are coded (ISO/IEC 14496-12, 8.5.2): how many sample entries there are, and then their
 // boxes, to the box's end. Whether there are as many as the count says is told by the tree of boxes (A47).
 ghost use Rattle.std.specs.Prelude.{◌≡◌};
@@ -8,14 +9,14 @@ use layout::Field;
 use numbers::Refusal;
 use put::Put;
 
-#[derive(Drop)]
+#[derive(Clone, Copy)]
 pub struct Stsd {
     pub version: u8,
     pub flags: u32,
     pub count: u32,
 }
 
-#[derive(Drop)]
+#[derive(Clone, Copy)]
 pub enum Found {
     Is(Stsd),
     Refused(Refusal),

@@ -1,3 +1,4 @@
+#![tactic(auto)]
 // The sync samples (ISO/IEC 14496-12, 8.6.2): a count, and as many sample numbers, from 1 on and strictly rising (A21).
 ghost use Rattle.std.specs.Prelude.{◌≡◌};
 ghost use Rattle.put.specs.Put.{wrote};
@@ -8,7 +9,7 @@ use numbers::{Refusal, U32};
 use put::Put;
 use rows::{Cell, Judged};
 
-#[derive(Drop)]
+#[derive(Clone, Copy)]
 pub struct Stss {
     pub version: u8,
     pub flags: u32,
@@ -16,7 +17,7 @@ pub struct Stss {
 }
 
 // The box, and where its entries begin.
-#[derive(Drop)]
+#[derive(Clone, Copy)]
 pub enum Found {
     Is(Stss, usize),
     Refused(Refusal),

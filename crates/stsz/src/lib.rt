@@ -1,3 +1,4 @@
+#![tactic(auto)]
 // The sample sizes (ISO/IEC 14496-12, 8.7.3.2): a size that all samples have in common, or 0, a count, and where it is
 // 0 as many sizes.
 ghost use Rattle.std.specs.Prelude.{◌≡◌};
@@ -9,7 +10,7 @@ use layout::table::Cut;
 use numbers::{Refusal, U32};
 use put::Put;
 
-#[derive(Drop)]
+#[derive(Clone, Copy)]
 pub struct Stsz {
     pub version: u8,
     pub flags: u32,
@@ -18,7 +19,7 @@ pub struct Stsz {
 }
 
 // The box, and where its entries begin.
-#[derive(Drop)]
+#[derive(Clone, Copy)]
 pub enum Found {
     Is(Stsz, usize),
     Refused(Refusal),

@@ -1,3 +1,4 @@
+#![tactic(auto)]
 // The decoding times (ISO/IEC 14496-12, 8.6.1.2): a count, and as many pairs of a count and a delta. A count of 0 in a
 // pair is allowed (A53).
 ghost use Rattle.std.specs.Prelude.{◌≡◌};
@@ -9,7 +10,7 @@ use layout::table::Cut;
 use numbers::{Refusal, U32};
 use put::Put;
 
-#[derive(Drop)]
+#[derive(Clone, Copy)]
 pub struct Stts {
     pub version: u8,
     pub flags: u32,
@@ -17,7 +18,7 @@ pub struct Stts {
 }
 
 // The box, and where its entries begin.
-#[derive(Drop)]
+#[derive(Clone, Copy)]
 pub enum Found {
     Is(Stts, usize),
     Refused(Refusal),
@@ -90,13 +91,13 @@ pub fn write(stts: Stts, entries: &[u8], out: &mut [u8]) -> Put
 }
 
 // A pair of the table: so many samples with this duration.
-#[derive(Drop)]
+#[derive(Clone, Copy)]
 pub struct Run {
     pub sample_count: u32,
     pub sample_delta: u32,
 }
 
-#[derive(Drop)]
+#[derive(Clone, Copy)]
 pub enum Listed {
     Is(Run),
     Refused(Refusal),

@@ -1,3 +1,4 @@
+#![tactic(auto)]
 // Sums up the tracks that its standard input tells of, in rows of 24 bytes, the highest byte of each number first: the
 // count of samples in 4 bytes, the duration in 8, the timescale, the width and the height in 4 each, both raw.
 // For each row there is a line: `refused` with the number and the detail; or the frame rate, the width and the height, each

@@ -1,3 +1,4 @@
+#![tactic(auto)]
 // A track's summary: how long it lasts, its frame rate, and the width and height at which it is shown.
 ghost use Rattle.std.specs.Prelude.{◌≡◌};
 ghost use Rattle.summary.specs.Figures.{fixed_of, rate_of, summed_of};
@@ -5,7 +6,7 @@ ghost use Rattle.summary.specs.Figures.{fixed_of, rate_of, summed_of};
 use numbers::{Refusal, U64};
 
 // The frame rate is in whole frames to a second; the duration is in microseconds.
-#[derive(Drop)]
+#[derive(Clone, Copy)]
 pub struct Summary {
     pub frame_rate: f64,
     pub width: f64,
@@ -14,7 +15,7 @@ pub struct Summary {
 }
 
 // A summary, or the refusal of its duration.
-#[derive(Drop)]
+#[derive(Clone, Copy)]
 pub enum Summed {
     Is(Summary),
     Refused(Refusal),

@@ -1,3 +1,4 @@
+#![tactic(auto)]
 // The sweep of an audit (F4, F5, F6) over up to four tracks, each a lane over its tables or over its runs: the position
 // goes through the payloads of the file's mdats, and each byte that it comes to must be the first of one sample.
 ghost use Rattle.std.specs.Prelude.{◌≡◌, true, false, ◌+◌, ◌≤◌, ◌<◌, min, take};
@@ -17,7 +18,7 @@ use payloads::Payload;
 use verdicts::{Asked, Finding};
 
 // The next sample of a track, where it has one: then live.
-#[derive(Drop)]
+#[derive(Clone, Copy)]
 pub(crate) struct Head {
     pub live: bool,
     pub track: u32,
@@ -28,7 +29,7 @@ pub(crate) struct Head {
 
 // Which tracks' next samples matter at a position: the first that starts below it, the first and the second that start
 // at it. 4 is none.
-#[derive(Drop)]
+#[derive(Clone, Copy)]
 pub(crate) struct Seen {
     pub below: usize,
     pub first: usize,
@@ -136,7 +137,7 @@ fn claim(number: u32, h: Head) -> Finding
 
 // What comes next. Skip: the payload is at its end. Take: that track's next sample is taken, up to `to`, and its lane is
 // asked for the one after it, with which so many tracks are filled. Stray: a next sample starts where it must not.
-#[derive(Drop)]
+#[derive(Clone, Copy)]
 pub(crate) enum Turn {
     Skip,
     Take {
@@ -285,7 +286,7 @@ fn met(track: u32, number: u32, offset: u64, size: u32) -> Head
 }
 
 // How far a track's samples were taken, its next sample, and its lane after that, by its tables.
-#[derive(Drop)]
+#[derive(Clone, Copy)]
 struct Tabled {
     pub at: u64,
     pub head: Head,
@@ -347,7 +348,7 @@ fn by_tables(
 }
 
 // The same by its runs.
-#[derive(Drop)]
+#[derive(Clone, Copy)]
 struct Ran {
     pub at: u64,
     pub head: Head,

@@ -1,3 +1,4 @@
+#![tactic(auto)]
 // Where the boxes of a track's tables lie in an stbl (ISO/IEC 14496-12, 8.5.1).
 ghost use Rattle.std.specs.Prelude.{◌≡◌};
 ghost use Rattle.tableboxes.specs.TableBoxes.{span_at, span_of, boxes_of};
@@ -9,7 +10,7 @@ use places::kinds;
 use rows::Judged;
 use stbl::{Boxes, Span};
 
-#[derive(Drop)]
+#[derive(Clone, Copy)]
 pub enum Places {
     Are(Boxes),
     Refused(Refusal),

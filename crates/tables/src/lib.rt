@@ -1,3 +1,4 @@
+#![tactic(auto)]
 // The tables of a track as they lie in the file: a row, a size, a chunk's place by its number. Nothing is refused here:
 // what the file does not hold is 0.
 ghost use Rattle.std.specs.Prelude.{◌≡◌};
@@ -5,21 +6,21 @@ ghost use Rattle.tables.specs.Tables.{size_at, offset_at};
 ghost use Rattle.tables.specs.Rows.{pair_rows, group_rows, end_at, row_at};
 
 // Where a table's entries lie, from their first byte on, and how many there are.
-#[derive(Drop)]
+#[derive(Clone, Copy)]
 pub struct Table {
     pub at: usize,
     pub count: u32,
 }
 
 // A table that may be absent: no ctts, or no stss.
-#[derive(Drop)]
+#[derive(Clone, Copy)]
 pub enum Optional {
     Absent,
     At(Table),
 }
 
 // The table stsz. common is 0 where the sizes are listed.
-#[derive(Drop)]
+#[derive(Clone, Copy)]
 pub struct Sizes {
     pub at: usize,
     pub count: u32,
@@ -27,7 +28,7 @@ pub struct Sizes {
 }
 
 // The chunks: wide by co64, else by stco.
-#[derive(Drop)]
+#[derive(Clone, Copy)]
 pub struct Chunks {
     pub at: usize,
     pub count: u32,
@@ -35,7 +36,7 @@ pub struct Chunks {
 }
 
 // The tables of a track.
-#[derive(Drop)]
+#[derive(Clone, Copy)]
 pub struct Track {
     pub stts: Table,
     pub ctts: Optional,
@@ -46,7 +47,7 @@ pub struct Track {
 }
 
 // A table of runs: (count, value), or stsc's (first chunk, samples per chunk, description) for that many chunks.
-#[derive(Drop)]
+#[derive(Clone, Copy)]
 pub struct Rows {
     pub at: usize,
     pub count: u32,
@@ -55,7 +56,7 @@ pub struct Rows {
 }
 
 // One run.
-#[derive(Drop)]
+#[derive(Clone, Copy)]
 pub struct Row {
     pub count: u64,
     pub value: u32,

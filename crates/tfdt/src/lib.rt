@@ -1,3 +1,4 @@
+#![tactic(auto)]
 // The decode time of a track fragment (ISO/IEC 14496-12, 8.8.12).
 ghost use Rattle.std.specs.Prelude.{◌≡◌};
 ghost use Rattle.put.specs.Put.{wrote};
@@ -7,14 +8,14 @@ use layout::Field;
 use numbers::Refusal;
 use put::Put;
 
-#[derive(Drop)]
+#[derive(Clone, Copy)]
 pub struct Tfdt {
     pub version: u8,
     pub flags: u32,
     pub base_media_decode_time: u64,
 }
 
-#[derive(Drop)]
+#[derive(Clone, Copy)]
 pub enum Found {
     Is(Tfdt),
     Refused(Refusal),

@@ -1,3 +1,4 @@
+#![tactic(auto)]
 // The track fragment header (ISO/IEC 14496-12, 8.8.7). A field whose flag is not set is 0; a track number of 0 is 8.
 ghost use Rattle.std.specs.Prelude.{◌≡◌};
 ghost use Rattle.put.specs.Put.{wrote};
@@ -7,7 +8,7 @@ use layout::Field;
 use numbers::Refusal;
 use put::Put;
 
-#[derive(Drop)]
+#[derive(Clone, Copy)]
 pub struct Tfhd {
     pub version: u8,
     pub flags: u32,
@@ -19,7 +20,7 @@ pub struct Tfhd {
     pub default_sample_flags: u32,
 }
 
-#[derive(Drop)]
+#[derive(Clone, Copy)]
 pub enum Found {
     Is(Tfhd),
     Refused(Refusal),

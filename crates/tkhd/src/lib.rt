@@ -1,3 +1,4 @@
+#![tactic(auto)]
 // The track header (ISO/IEC 14496-12, 8.3.2). 92 bytes in version 0 and 104 in version 1; a track number of 0 is 8.
 ghost use Rattle.std.specs.Prelude.{◌≡◌};
 ghost use Rattle.put.specs.Put.{wrote};
@@ -7,7 +8,7 @@ use layout::Field;
 use numbers::Refusal;
 use put::Put;
 
-#[derive(Drop)]
+#[derive(Clone, Copy)]
 pub struct Tkhd {
     pub version: u8,
     pub flags: u32,
@@ -31,7 +32,7 @@ pub struct Tkhd {
     pub height: u32,
 }
 
-#[derive(Drop)]
+#[derive(Clone, Copy)]
 pub enum Found {
     Is(Tkhd),
     Refused(Refusal),

@@ -1,3 +1,4 @@
+#![tactic(auto)]
 // What a track tells of itself, from the bytes of its trak: 5 for a box that is missing, else what the box's own reader
 // refuses, at a position that is counted from that box's first byte; 8 for letters that are not known.
 ghost use Rattle.std.specs.Prelude.{◌≡◌};
@@ -7,7 +8,7 @@ use language::Letters;
 use media::{entries, handlers};
 use numbers::{Refusal, U32};
 
-#[derive(Drop)]
+#[derive(Clone, Copy)]
 pub enum Spoken {
     Is(Letters),
     Refused(Refusal),

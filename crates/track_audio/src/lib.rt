@@ -1,3 +1,4 @@
+#![tactic(auto)]
 // What an audio track tells of itself, from the bytes of its trak: its first sample entry is an mp4a, whose esds holds the
 // configuration. 5 for a box that is missing, with mp4a where the entry is another; else what the readers on the way
 // refuse, at a position that is counted from the first byte of what each reads; 8 for a number that is not known.

@@ -1,3 +1,4 @@
+#![tactic(auto)]
 // How large a track is, from the bytes of its trak: its samples' bytes together, its bits to a second, and its summary. 5 for
 // a box that is missing, else what the box's own reader refuses, at a position that is counted from that box's first byte;
 // 9 where a number does not fit.

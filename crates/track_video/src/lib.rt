@@ -1,3 +1,4 @@
+#![tactic(auto)]
 // What an H.264 track tells of itself, from the bytes of its trak: its first sample entry is an avc1, whose avcC holds the
 // configuration. 5 for a box that is missing, with avc1 where the entry is another; else what the readers on the way
 // refuse, at a position that is counted from the first byte of what each reads; 8 for a profile that is not known, 11 for

@@ -1,3 +1,4 @@
+#![tactic(auto)]
 // The samples of a track, told by its tables or, in a fragmented file, by its runs: all of them or one of them as records
 // in a lent buffer, how many there are, and the bytes of all.
 ghost use Rattle.std.specs.Prelude.{◌≡◌};
@@ -15,7 +16,7 @@ use samples::{Found, Listed, Located, Sample};
 use tables::Track;
 
 // Where the samples of a track are told: by its tables; in a fragmented file by the runs that have its number.
-#[derive(Drop)]
+#[derive(Clone, Copy)]
 pub struct Source {
     pub tables: Track,
     pub number: u32,

@@ -1,3 +1,4 @@
+#![tactic(auto)]
 // The part of a track in a fragment (ISO/IEC 14496-12, 8.8.6): boxes, and where its header, its time and its first run
 // lie.
 ghost use Rattle.std.specs.Prelude.{◌≡◌};
@@ -8,14 +9,14 @@ use numbers::Refusal;
 use places::kinds;
 use rows::Judged;
 
-#[derive(Drop)]
+#[derive(Clone, Copy)]
 pub struct Traf {
     pub tfhd: Place,
     pub tfdt: Place,
     pub trun: Place,
 }
 
-#[derive(Drop)]
+#[derive(Clone, Copy)]
 pub enum Found {
     Is(Traf),
     Refused(Refusal),

@@ -1,3 +1,4 @@
+#![tactic(auto)]
 // The run of a traf, by its boxes that are recorded in the tables. A box is named by its row and 1; 0 names none.
 ghost use Rattle.std.specs.Prelude.{◌≡◌};
 ghost use Rattle.places.specs.Kinds.{tfhd, tfdt};

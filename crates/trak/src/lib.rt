@@ -1,3 +1,4 @@
+#![tactic(auto)]
 // Where the boxes of a trak lie (ISO/IEC 14496-12, 8.3.1): each as the part of the trak from the box's header to its end;
 // no bytes where it is not there, or where a fault comes before it.
 ghost use Rattle.std.specs.Prelude.{◌≡◌};

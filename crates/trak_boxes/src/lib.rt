@@ -1,3 +1,4 @@
+#![tactic(auto)]
 // What the readers of a trak's boxes answer, each of the first box of its type in its place; 5 where that is not there, with
 // the type of the first box on the way to it that is missing. A box that a fault comes before is not found, and so missing.
 ghost use Rattle.std.specs.Prelude.{◌≡◌};

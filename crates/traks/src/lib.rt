@@ -1,3 +1,4 @@
+#![tactic(auto)]
 // What the tracks of a file tell, by the boxes that are recorded in the tables. A trak is named by its row and 1.
 ghost use Rattle.std.specs.Prelude.{◌≡◌, ◌<◌};
 ghost use Rattle.places.specs.Kinds.{tkhd};

@@ -1,3 +1,4 @@
+#![tactic(auto)]
 // The tree of a file's boxes, as tables: each header is read once, in file order, and recorded in one row of every table.
 ghost use Rattle.std.specs.Prelude.{◌≡◌, ◌<◌};
 ghost use Rattle.places.specs.Visit.{box_limit};
@@ -11,14 +12,14 @@ use places::{Node, Row, Visited};
 pub const FILE_LIMIT: usize = 1_073_741_824;
 
 // How many boxes were recorded: all of them, or those before the first fault.
-#[derive(Drop)]
+#[derive(Clone, Copy)]
 pub enum Scanned {
     Whole(usize),
     Fault(usize, Refusal),
 }
 
 // How many boxes there are, or why the tree is refused.
-#[derive(Drop)]
+#[derive(Clone, Copy)]
 pub enum Answer {
     Done(usize),
     Refused(Refusal),

@@ -1,3 +1,4 @@
+#![tactic(auto)]
 // The defaults of a track in fragments (ISO/IEC 14496-12, 8.8.3). A track number of 0 is 8 (A18).
 ghost use Rattle.std.specs.Prelude.{◌≡◌};
 ghost use Rattle.put.specs.Put.{wrote};
@@ -7,7 +8,7 @@ use layout::Field;
 use numbers::Refusal;
 use put::Put;
 
-#[derive(Drop)]
+#[derive(Clone, Copy)]
 pub struct Trex {
     pub version: u8,
     pub flags: u32,
@@ -18,7 +19,7 @@ pub struct Trex {
     pub default_sample_flags: u32,
 }
 
-#[derive(Drop)]
+#[derive(Clone, Copy)]
 pub enum Found {
     Is(Trex),
     Refused(Refusal),

@@ -1,3 +1,4 @@
+#![tactic(auto)]
 // The track fragment run (ISO/IEC 14496-12, 8.8.8): a count of samples, where their data begin, the flags of the first
 // one, and for each sample those of its four values whose flags are set. A field whose flag is not set is 0.
 ghost use Rattle.std.specs.Prelude.{◌≡◌};
@@ -13,7 +14,7 @@ use numbers::{Refusal, U32};
 use put::Put;
 
 // The data offset is kept as its 32 bits: `offset_of` says what they stand for.
-#[derive(Drop)]
+#[derive(Clone, Copy)]
 pub struct Trun {
     pub version: u8,
     pub flags: u32,
@@ -23,7 +24,7 @@ pub struct Trun {
 }
 
 // The box, and where its entries begin.
-#[derive(Drop)]
+#[derive(Clone, Copy)]
 pub enum Found {
     Is(Trun, usize),
     Refused(Refusal),
@@ -154,7 +155,7 @@ fn signed_of(n: u32) -> i64
     -1 - ((0xffff_ffff - n) as i64)
 }
 
-#[derive(Drop)]
+#[derive(Clone, Copy)]
 pub enum DataOffset {
     Absent,
     Is(i64),
@@ -171,7 +172,7 @@ pub fn offset_of(trun: Trun) -> DataOffset
 }
 
 // What a sample says of itself.
-#[derive(Drop)]
+#[derive(Clone, Copy)]
 pub struct Sample {
     pub duration: u32,
     pub size: u32,
@@ -179,7 +180,7 @@ pub struct Sample {
     pub composition_offset: i64,
 }
 
-#[derive(Drop)]
+#[derive(Clone, Copy)]
 pub enum Listed {
     Is(Sample),
     Refused(Refusal),

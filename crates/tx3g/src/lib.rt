@@ -1,3 +1,4 @@
+#![tactic(auto)]
 // How timed text is shown (3GPP TS 26.245, 5.16): the text's place and its first style, and then boxes, the font
 // table among them, to the box's end. The justifications and the four sides of the text's box are signed numbers there;
 // they are kept as their raw bits, in two's complement.
@@ -7,7 +8,7 @@ ghost use Rattle.tx3g.specs.Tx3g.{tx3g_of};
 use layout::Field;
 use numbers::Refusal;
 
-#[derive(Drop)]
+#[derive(Clone, Copy)]
 pub struct Tx3g {
     pub data_reference_index: u16,
     pub display_flags: u32,
@@ -32,7 +33,7 @@ pub struct Tx3g {
     pub text_alpha: u8,
 }
 
-#[derive(Drop)]
+#[derive(Clone, Copy)]
 pub enum Found {
     Is(Tx3g),
     Refused(Refusal),

@@ -1,3 +1,4 @@
+#![tactic(auto)]
 // The boxes of tx3g, how timed text is shown (`tx3g`), lent where they lie.
 ghost use Rattle.std.specs.Prelude.{◌≡◌};
 ghost use Rattle.tx3g.specs.Tx3g.{boxes_of};

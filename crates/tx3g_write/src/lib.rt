@@ -1,3 +1,4 @@
+#![tactic(auto)]
 // The writer of tx3g, how timed text is shown (`tx3g`).
 ghost use Rattle.std.specs.Prelude.{◌≡◌};
 ghost use Rattle.put.specs.Put.{wrote};

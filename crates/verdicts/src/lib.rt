@@ -1,10 +1,11 @@
+#![tactic(auto)]
 // What an audit answers. What it means is in specs/, what clean means in specs/Meaning.antt; the walks over a file
 // promise equations with these definitions.
 use numbers::Refusal;
 
 // A finding by its number, F1 to F8; each other field is 0 where that finding does not use it. The track is the number
 // in its tkhd, which is never 0; samples count from 1.
-#[derive(Drop)]
+#[derive(Clone, Copy)]
 pub struct Finding {
     pub number: u32,
     pub track: u32,
@@ -14,14 +15,14 @@ pub struct Finding {
 }
 
 // What a question of the audit tells: it passes, or finds.
-#[derive(Drop)]
+#[derive(Clone, Copy)]
 pub enum Asked {
     Passes,
     Found(Finding),
 }
 
 // Clean tells how much it is about: so many tracks, samples and bytes of media data.
-#[derive(Drop)]
+#[derive(Clone, Copy)]
 pub enum Verdict {
     Clean {
         tracks: u32,
@@ -32,7 +33,7 @@ pub enum Verdict {
 }
 
 // The answer to a file: a verdict, or why it is refused.
-#[derive(Drop)]
+#[derive(Clone, Copy)]
 pub enum Audited {
     Clean {
         tracks: u32,

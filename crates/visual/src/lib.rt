@@ -1,3 +1,4 @@
+#![tactic(auto)]
 // A sample entry of a visual track, of any kind (ISO/IEC 14496-12, 12.1.3): which data reference its samples are in, the
 // size of the picture, its resolutions as raw 16.16, how many frames a sample has, the 32 bytes of the compressor's name as
 // four numbers, and the depth. Behind them its boxes, to the entry's end. What is predefined or reserved is passed over.
@@ -7,7 +8,7 @@ ghost use Rattle.visual.specs.Visual.{visual_of};
 use layout::Field;
 use numbers::Refusal;
 
-#[derive(Drop)]
+#[derive(Clone, Copy)]
 pub struct Visual {
     pub data_reference_index: u16,
     pub width: u16,
@@ -22,7 +23,7 @@ pub struct Visual {
     pub depth: u16,
 }
 
-#[derive(Drop)]
+#[derive(Clone, Copy)]
 pub enum Found {
     Is(Visual),
     Refused(Refusal),

@@ -1,3 +1,4 @@
+#![tactic(auto)]
 // The boxes of a visual sample entry (`visual`), of any kind, lent where they lie.
 ghost use Rattle.std.specs.Prelude.{◌≡◌};
 ghost use Rattle.visual.specs.Visual.{children_of};

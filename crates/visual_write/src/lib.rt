@@ -1,3 +1,4 @@
+#![tactic(auto)]
 // The writer of a visual sample entry (`visual`), of any kind.
 ghost use Rattle.std.specs.Prelude.{◌≡◌};
 ghost use Rattle.put.specs.Put.{wrote};

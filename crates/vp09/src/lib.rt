@@ -1,3 +1,4 @@
+#![tactic(auto)]
 // The sample entry of a VP9 track (VP Codec ISO Media File Format Binding): a visual sample entry whose boxes hold the
 // configuration of its codec, vpcC.
 ghost use Rattle.std.specs.Prelude.{◌≡◌};

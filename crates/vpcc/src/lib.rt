@@ -1,3 +1,4 @@
+#![tactic(auto)]
 // How a VP8 or VP9 track is coded (VP Codec ISO Media File Format Binding, 'vpcC', version 1): profile, level, bit depth,
 // chroma subsampling and range in one byte, three codes of its colours, and the data that the codec begins with: a size in
 // bytes, and as many bytes.
@@ -8,7 +9,7 @@ use layout::Field;
 use layout::table::Cut;
 use numbers::Refusal;
 
-#[derive(Drop)]
+#[derive(Clone, Copy)]
 pub struct Vpcc {
     pub version: u8,
     pub flags: u32,
@@ -22,7 +23,7 @@ pub struct Vpcc {
 }
 
 // The box, and where the initialization data begin.
-#[derive(Drop)]
+#[derive(Clone, Copy)]
 pub enum Found {
     Is(Vpcc, usize),
     Refused(Refusal),

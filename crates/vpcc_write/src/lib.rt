@@ -1,3 +1,4 @@
+#![tactic(auto)]
 // The writer of vpcC, how a VP8 or VP9 track is coded (`vpcc`).
 ghost use Rattle.std.specs.Prelude.{◌≡◌};
 ghost use Rattle.put.specs.Put.{wrote};

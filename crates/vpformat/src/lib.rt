@@ -1,3 +1,4 @@
+#![tactic(auto)]
 // The byte of a vpcC that tells the bit depth, the chroma subsampling and the range (VP Codec ISO Media File Format Binding).
 ghost use Rattle.std.specs.Prelude.{◌≡◌, ◌≤◌};
 ghost use Rattle.numbers.specs.Field.{when};

@@ -1,3 +1,4 @@
+#![tactic(auto)]
 // The tree of a file's boxes (`tree`) where all of it is told, and none of it where the file has a fault.
 ghost use Rattle.std.specs.Prelude.{◌≡◌, ◌≤◌, length, take};
 ghost use Rattle.std.proofs.lemmas.List.Edits.{sets};

@@ -1,3 +1,4 @@
+#![tactic(auto)]
 // The functions that a program in Rust or C calls, each on a lent file and on lent words. The number of the answer is
 // returned; `also` is what document 01 has returned beside it, and is written with every answer.
 ghost use Rattle.std.specs.Prelude.{◌≡◌, []};
@@ -8,7 +9,7 @@ use opened::Question;
 use samples::Listed;
 use verdicts::Audited;
 
-#[derive(Drop)]
+#[derive(Clone, Copy)]
 pub(crate) struct Answer {
     pub number: u32,
     pub also: u64,

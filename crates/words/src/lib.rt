@@ -1,3 +1,4 @@
+#![tactic(auto)]
 // Numbers that lie in a file, wherever a table says: a number that the file does not hold whole is 0.
 ghost use Rattle.std.specs.Prelude.{◌≡◌, ◌+◌};
 ghost use Rattle.numbers.specs.Field.{or_zero};

@@ -1,3 +1,4 @@
+#![tactic(auto)]
 // The bytes of a box's children, where its whole content is boxes, and a box around such bytes.
 ghost use Rattle.std.specs.Prelude.{◌≡◌};
 ghost use Rattle.put.specs.Put.{wrote};

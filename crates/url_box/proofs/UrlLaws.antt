@@ -10,9 +10,9 @@ use Rattle.put.specs.declared.Put.TheVariants.{Done}
 use Rattle.layout.specs.Rule.{rule_of}
 use Rattle.layout.specs.Canonical.{slots, firsts, Canonical}
 use Rattle.rounds.proofs.TailBoxes.{tail-back, tail-own}
-use Rattle.url.specs.Url.{kind, fields, from, to, url_of, location_of, url_in}
-use Rattle.url.specs.declared.Url.{Url}
-use Rattle.url.specs.declared.Found.TheVariants.{Is, Refused}
+use Rattle.url_box.specs.Url.{kind, fields, from, to, url_of, location_of, url_in}
+use Rattle.url_box.specs.declared.Url.{Url}
+use Rattle.url_box.specs.declared.Found.TheVariants.{Is, Refused}
 
 pub url-back : (m : Url) (location buf : List ℕ) (n : ℕ) (out : List ℕ) → url_in m location buf ≡ wrote (Done n) out → (url_of (take n out) ≡ Is m) × (location_of (take n out) ≡ location)
 unfolding slots firsts rule_of when

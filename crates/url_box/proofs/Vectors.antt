@@ -10,9 +10,9 @@ use Rattle.layout.specs.Rule.{rule_of}
 use Rattle.layout.specs.Read.{one, decode}
 use Rattle.layout.specs.Write.{lay, encode}
 use Rattle.rounds.proofs.Example.{box}
-use Rattle.url.specs.Url as url-is
-use Rattle.url.specs.declared.Url.{Url}
-use Rattle.url.specs.declared.Found.TheVariants as url
+use Rattle.url_box.specs.Url as url-is
+use Rattle.url_box.specs.declared.Url.{Url}
+use Rattle.url_box.specs.declared.Found.TheVariants as url
 
 abbrev here : Url
 here = record { version = 0; flags = 1 }

@@ -4,11 +4,11 @@ use Rattle.numbers.specs.Field.{when}
 use Rattle.layout.specs.Rule.{rule_of}
 use Rattle.layout.specs.Canonical.{most, limit}
 use Rattle.rounds.proofs.Boxes.{told-no, told_is, fits}
-use Rattle.url.specs.Url.{kind, fields, from}
-use Rattle.url.specs.declared.Found.TheVariants.{Is, Refused}
+use Rattle.url_box.specs.Url.{kind, fields, from}
+use Rattle.url_box.specs.declared.Found.TheVariants.{Is, Refused}
 use borrow.Author.Rules.{rules}
-use Rattle.url.proofs.read.Statement.{statement}
-use Rattle.url.proofs.read.Tie as tie
+use Rattle.url_box.proofs.read.Statement.{statement}
+use Rattle.url_box.proofs.read.Tie as tie
 
 by-requires : tie.Need-by-requires
 by-requires c κs = search rules

@@ -1,20 +1,21 @@
+#![tactic(auto)]
 // Where the media data of a track lie (ISO/IEC 14496-12, 8.7.2): flag 1 says in the same file; the location is the
 // rest of the box.
 ghost use Rattle.std.specs.Prelude.{◌≡◌};
 ghost use Rattle.put.specs.Put.{wrote};
-ghost use Rattle.url.specs.Url.{url_of, location_of, url_in};
+ghost use Rattle.url_box.specs.Url.{url_of, location_of, url_in};
 
 use layout::Field;
 use numbers::Refusal;
 use put::Put;
 
-#[derive(Drop)]
+#[derive(Clone, Copy)]
 pub struct Url {
     pub version: u8,
     pub flags: u32,
 }
 
-#[derive(Drop)]
+#[derive(Clone, Copy)]
 pub enum Found {
     Is(Url),
     Refused(Refusal),

@@ -6,9 +6,9 @@ use Rattle.layout.specs.Read.{read_of, answer, rest_of}
 use Rattle.layout.specs.Write.{write_of, padded, slotted}
 use Rattle.layout.specs.declared.Field.{Field}
 use Rattle.layout.specs.declared.Field.TheVariants.{Version, Flags}
-use Rattle.url.specs.declared.Url.{Url}
-use Rattle.url.specs.declared.Found.{Found}
-use Rattle.url.specs.declared.Found.TheVariants.{Is, Refused}
+use Rattle.url_box.specs.declared.Url.{Url}
+use Rattle.url_box.specs.declared.Found.{Found}
+use Rattle.url_box.specs.declared.Found.TheVariants.{Is, Refused}
 
 abbrev pub kind : ℕ
 kind = 0x75726c20
