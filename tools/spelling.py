@@ -82,6 +82,7 @@ def turned(text, is_ours, ending):
 def main():
     heads = defined()
     names = {name for name in heads if CAMEL.match(name)}
+    turning = {snake(name) for name in names}
     # pages and edits still have what port.py turned elsewhere
     cited = lambda name: name in names or CAMEL.match(name) and snake(name) in heads
     for path in files((".antt", ".rt", ".edit", ".md")):
@@ -94,7 +95,7 @@ def main():
             continue
         after = before
         for lemma, places in DASHED.items():
-            if path in places:
+            if path in places and lemma in turning:
                 after = re.sub(rf"(?<![\w'-]){lemma}(?![\w'-])", lemma.replace("_", "-"), after)
         after = turned(after, cited if path.endswith((".edit", ".md")) else names.__contains__, os.path.splitext(path)[1])
         if after != before:

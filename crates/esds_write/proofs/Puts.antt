@@ -35,7 +35,7 @@ use Rattle.decoderconfig.specs.DecoderConfig.{config_bytes, size_of, config_in}
 use Rattle.decoderconfig.specs.DecoderConfig as config
 use Rattle.decoderconfig.specs.declared.Config.{Config}
 use Rattle.decoderconfig.proofs.Puts.{config-put}
-use Rattle.esfields.specs.EsFields.{field_bytes, fields-in}
+use Rattle.esfields.specs.EsFields.{field_bytes, fields_in}
 use Rattle.esfields.specs.EsFields as es
 use Rattle.esfields.proofs.Puts.{fields-in}
 use Rattle.esds.specs.Esds.{kind, fields, decoder_bytes, sl_bytes, content_bytes, decoder_sound, sl_sound, decoder_size, sl_size, sound, esds_in}
@@ -187,14 +187,14 @@ module _ (m : Esds) (url info sl : List ℕ) where
     small-enough = omega (arith, en, (sounds m url info sl ok).small)
 
     -- nothing grows
-    pub stream-long : (b1 b2 : List ℕ) (p q : Put) → wrote p b1 ≡ head_in 3 n 12 out → wrote q b2 ≡ fields-in m.stream url (13 + w) b1 → length b2 ≡ length out
+    pub stream-long : (b1 b2 : List ℕ) (p q : Put) → wrote p b1 ≡ head_in 3 n 12 out → wrote q b2 ≡ fields_in m.stream url (13 + w) b1 → length b2 ≡ length out
     stream-long b1 b2 p q f1 f2 =
         let g1 : b1 ≡ sets out 12 (head_bytes 3 n) = head-put 3 n 12 out b1 p small-enough (omega (arith, stream-room, ew)) f1 in
         let l1 = same-long out b1 (head_bytes 3 n) 12 g1 in
         let g2 : b2 ≡ sets b1 (13 + w) (field_bytes m.stream url) = fields-in m.stream url (13 + w) b1 b2 q (sounds m url info sl ok).fields-ok (omega (arith, stream-room, l1, e1)) f2 in
         same-long b1 b2 (field_bytes m.stream url) (13 + w) g2 ∙ l1
 
-    pub stream-put : (b1 b2 b3 b4 : List ℕ) (p q : Put) → wrote p b1 ≡ head_in 3 n 12 out → wrote q b2 ≡ fields-in m.stream url (13 + w) b1 →
+    pub stream-put : (b1 b2 b3 b4 : List ℕ) (p q : Put) → wrote p b1 ≡ head_in 3 n 12 out → wrote q b2 ≡ fields_in m.stream url (13 + w) b1 →
         b3 ≡ sets b2 (13 + w + first) (decoder_bytes m.decoder info) → b4 ≡ sets b3 (13 + w + first + second) (sl_bytes m.has_sl sl) →
         b4 ≡ sets out 12 (descriptor_bytes 3 (content_bytes m url info sl))
     stream-put b1 b2 b3 b4 p q f1 f2 f3 f4 =

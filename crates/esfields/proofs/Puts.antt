@@ -21,7 +21,7 @@ use Rattle.put.specs.declared.Put.{Put}
 use Rattle.put.specs.declared.Put.TheVariants.{Done, Refused}
 use Rattle.put.proofs.Placed.{has_room, no-sum, no_room}
 use Rattle.descriptors.proofs.Puts.{number_put, part-put, more, same-long}
-use Rattle.esfields.specs.EsFields.{is_set, wide, has, sound, field_bytes, size_of, fields-in}
+use Rattle.esfields.specs.EsFields.{is_set, wide, has, sound, field_bytes, size_of, fields_in}
 use Rattle.esfields.specs.declared.Stream.{Stream}
 use Rattle.esfields.proofs.Cases.{few}
 
@@ -190,25 +190,25 @@ module _ (m : Stream) (url : List ℕ) (at x y z : ℕ) (ex : x ≡ wide m.flags
 -- ALL FIELDS
 
 module _ (m : Stream) (url : List ℕ) (at : ℕ) (out : List ℕ) where
-  pub unsound : sound m url ≡ false → wrote (Refused (refusal 13 0)) out ≡ fields-in m url at out
+  pub unsound : sound m url ≡ false → wrote (Refused (refusal 13 0)) out ≡ fields_in m url at out
   unsound e = by-false _ _ _ (sound m url) e refl
 
   module _ (h : sound m url ≡ true) (n : ℕ) (e : n ≡ length (field_bytes m url)) where
-    pub no_end : length out < 2 ^ 64 → 2 ^ 64 ≤ at + n → wrote (Refused (refusal 9 0)) out ≡ fields-in m url at out
+    pub no_end : length out < 2 ^ 64 → 2 ^ 64 ≤ at + n → wrote (Refused (refusal 9 0)) out ≡ fields_in m url at out
     no_end l g = by-true _ _ _ (sound m url) h (no-sum (field_bytes m url) (length (field_bytes m url)) at out l (omega (arith, e, g)))
 
-    pub no_place : at + n < 2 ^ 64 → length out < at + n → wrote (Refused (refusal 12 (at + n))) out ≡ fields-in m url at out
+    pub no_place : at + n < 2 ^ 64 → length out < at + n → wrote (Refused (refusal 12 (at + n))) out ≡ fields_in m url at out
     no_place l g =
         ap (λ n. wrote (Refused (refusal 12 (at + n))) out) e
         ∙ by-true _ _ _ (sound m url) h (no_room (field_bytes m url) (length (field_bytes m url)) at out (omega (arith, e, l)) (omega (arith, e, g)))
 
-    pub all-put : at + n ≤ length out → (b : List ℕ) → b ≡ sets out at (field_bytes m url) → wrote (Done (at + n)) b ≡ fields-in m url at out
+    pub all-put : at + n ≤ length out → (b : List ℕ) → b ≡ sets out at (field_bytes m url) → wrote (Done (at + n)) b ≡ fields_in m url at out
     all-put g b f =
         ap₂ (λ (n : ℕ) (b : List ℕ). wrote (Done (at + n)) b) e f
         ∙ by-true _ _ _ (sound m url) h (has_room (field_bytes m url) (length (field_bytes m url)) at out (omega (arith, e, g)))
 
 -- fields that have room
 pub fields-in : (m : Stream) (url : List ℕ) (at : ℕ) (out after : List ℕ) (p : Put) → sound m url ≡ true → at + length (field_bytes m url) ≤ length out →
-    wrote p after ≡ fields-in m url at out → after ≡ sets out at (field_bytes m url)
+    wrote p after ≡ fields_in m url at out → after ≡ sets out at (field_bytes m url)
 fields-in m url at out after p h r e =
     cc (e ∙ sym (by-true _ _ _ (sound m url) h (has_room (field_bytes m url) (length (field_bytes m url)) at out r)))

@@ -24,7 +24,7 @@ use Rattle.layout.specs.declared.read.Fields.{Fields}
 use Rattle.layout.proofs.Cases.{part-of}
 use Rattle.rounds.proofs.Round.{passes, one-got, keep-got}
 use Rattle.rounds.proofs.Boxes.{pulled, length_got}
-use Rattle.keys.specs.Key.{key-in}
+use Rattle.keys.specs.Key.{key_in}
 use Rattle.keys.specs.declared.Key.TheVariants.{Is}
 
 -- no field more
@@ -115,7 +115,7 @@ stored vs i h l =
 -- A KEY IS THE VALUE IN ITS SLOT OF A BOX THAT IS READ
 module _ (kind : ℕ) (fs : List Field) (b : List ℕ) (slot : ℕ) (some : slot < slots (padded (take (suc slot) fs))) (few : slots (padded (take (suc slot) fs)) ≤ 24) (all : slots fs ≤ 24) (first : Fields) where
   read-got : (s : List ℕ) (at end : ℕ) → at ≤ length s → (g : Got) → decode fs s at 0 0 ≡ g → (fields_of end (zeros 24) 0 g).number ≡ 0 →
-      key-in slot first (fields_of end (zeros 24) 0 (decode (padded (take (suc slot) fs)) s at 0 0)) ≡ Is (get_or (fields_of end (zeros 24) 0 g).values slot 0) first.place
+      key_in slot first (fields_of end (zeros 24) 0 (decode (padded (take (suc slot) fs)) s at 0 0)) ≡ Is (get_or (fields_of end (zeros 24) 0 g).values slot 0) first.place
   unfolding when
   read-got s at end h (got vs e) d z =
       let w = firsts-read fs (suc slot) (24 - length (take (suc slot) fs)) s at 0 0 vs e h d in
@@ -125,21 +125,21 @@ module _ (kind : ℕ) (fs : List Field) (b : List ℕ) (slot : ℕ) (some : slot
       let same : get_or (sets (zeros 24) 0 w.0) slot 0 ≡ get_or (sets (zeros 24) 0 vs) slot 0 =
       stored w.0 slot (omega arith) (omega arith) ∙ sym (get_or-append w.0 w.1 0 slot (omega arith)) ∙ ap (λ l. get_or l slot 0) (sym w.4)
       ∙ sym (stored vs slot (omega arith) (omega arith)) in
-      ap (λ g. key-in slot first (fields_of end (zeros 24) 0 g)) w.3 ∙ ap (λ x. Is x first.place) same
+      ap (λ g. key_in slot first (fields_of end (zeros 24) 0 g)) w.3 ∙ ap (λ x. Is x first.place) same
   read-got s at end h (fault n p) d z = absurd (omega (arith, faulted fs s at 0 0 n p d, z))
 
   by_kind : (h : _) → header_of b 0 true ≡ found.Is h → (t : Bool) →
       (when t (fields_of (length (take h.size b)) (zeros 24) 0 (decode fs (take h.size b) h.length 0 0)) (faulty_of 8 4)).number ≡ 0 →
-      key-in slot first (when t (fields_of (length (take h.size b)) (zeros 24) 0 (decode (padded (take (suc slot) fs)) (take h.size b) h.length 0 0)) (faulty_of 8 4))
+      key_in slot first (when t (fields_of (length (take h.size b)) (zeros 24) 0 (decode (padded (take (suc slot) fs)) (take h.size b) h.length 0 0)) (faulty_of 8 4))
       ≡ Is (get_or (when t (fields_of (length (take h.size b)) (zeros 24) 0 (decode fs (take h.size b) h.length 0 0)) (faulty_of 8 4)).values slot 0) first.place
   unfolding when
   by_kind h e true z = read-got (take h.size b) h.length (length (take h.size b)) (part-of b h e).1 (decode fs (take h.size b) h.length 0 0) refl z
   by_kind h e false z = absurd (omega (arith, z))
 
   by-header : (h : Found) → header_of b 0 true ≡ h → (headed kind fs b h).number ≡ 0 →
-      key-in slot first (headed kind (padded (take (suc slot) fs)) b h) ≡ Is (get_or (headed kind fs b h).values slot 0) first.place
+      key_in slot first (headed kind (padded (take (suc slot) fs)) b h) ≡ Is (get_or (headed kind fs b h).values slot 0) first.place
   by-header (found.Is h) e z = by_kind h e (eqb h.kind kind) z
   by-header (found.Refused q) e z = sym (is_eq _ _ _ _ _ z refl)
 
-  pub key-in : (read_of kind fs b).number ≡ 0 → key-in slot first (read_of kind (padded (take (suc slot) fs)) b) ≡ Is (get_or (read_of kind fs b).values slot 0) first.place
+  pub key-in : (read_of kind fs b).number ≡ 0 → key_in slot first (read_of kind (padded (take (suc slot) fs)) b) ≡ Is (get_or (read_of kind fs b).values slot 0) first.place
   key-in z = by-header (header_of b 0 true) refl z

@@ -43,28 +43,28 @@ use Rattle.tracksamples.specs.TrackSamples.{samples_from, one_of, count_of, tota
 use Rattle.figures.specs.Words.{figures_of}
 use Rattle.audit.specs.Boxes.{empty, boxes_of, count_of as row_count}
 use Rattle.audit.proofs.Answers.{fragments-refused, scanned, recorded, judgement}
-use Rattle.opened.specs.Opened.{by-total, by-count, answer_of, source_of, trak_at, by_tables, by_trak, tell_in, tell_of}
+use Rattle.opened.specs.Opened.{by_total, by_count, answer_of, source_of, trak_at, by_tables, by_trak, tell_in, tell_of}
 use Rattle.opened.specs.declared.Question.{Question}
 use Rattle.opened.specs.declared.Question.TheVariants as question
 
 -- THE FIGURES
 
 module _ (bytes : List ℕ) (l : List Sample) (o : List ℕ) (z : Output) (x : U32) (e : x ≡ count_of l) where
-  by-count : z ≡ by-count bytes l o x → z ≡ by-count bytes l o (count_of l)
-  by-count h = h ∙ ap (by-count bytes l o) e
+  by-count : z ≡ by_count bytes l o x → z ≡ by_count bytes l o (count_of l)
+  by-count h = h ∙ ap (by_count bytes l o) e
 
-  pub count-refused : (q : Refusal) → x ≡ u32.Refused q → z ≡ output (Refused q) o → z ≡ by-count bytes l o (count_of l)
-  count-refused q w h = by-count (h ∙ ap (by-count bytes l o) (sym w))
+  pub count-refused : (q : Refusal) → x ≡ u32.Refused q → z ≡ output (Refused q) o → z ≡ by_count bytes l o (count_of l)
+  count-refused q w h = by-count (h ∙ ap (by_count bytes l o) (sym w))
 
   module _ (count : ℕ) (w : x ≡ u32.Is count) (y : U64) (ey : y ≡ total_of l) where
-    by-total : z ≡ by-total bytes count o y → z ≡ by-count bytes l o (count_of l)
-    by-total h = by-count (h ∙ ap (by-total bytes count o) ey ∙ ap (by-count bytes l o) (sym w))
+    by-total : z ≡ by_total bytes count o y → z ≡ by_count bytes l o (count_of l)
+    by-total h = by-count (h ∙ ap (by_total bytes count o) ey ∙ ap (by_count bytes l o) (sym w))
 
-    pub total-refused : (q : Refusal) → y ≡ u64.Refused q → z ≡ output (Refused q) o → z ≡ by-count bytes l o (count_of l)
-    total-refused q v h = by-total (h ∙ ap (by-total bytes count o) (sym v))
+    pub total-refused : (q : Refusal) → y ≡ u64.Refused q → z ≡ output (Refused q) o → z ≡ by_count bytes l o (count_of l)
+    total-refused q v h = by-total (h ∙ ap (by_total bytes count o) (sym v))
 
-    pub figured : (total : ℕ) → y ≡ u64.Is total → z ≡ figures_of bytes count total o → z ≡ by-count bytes l o (count_of l)
-    figured total v h = by-total (h ∙ ap (by-total bytes count o) (sym v))
+    pub figured : (total : ℕ) → y ≡ u64.Is total → z ≡ figures_of bytes count total o → z ≡ by_count bytes l o (count_of l)
+    figured total v h = by-total (h ∙ ap (by_total bytes count o) (sym v))
 
 -- THE QUESTION
 
@@ -81,7 +81,7 @@ module _ (number : ℕ) (bytes : List ℕ) (l : List Sample) (o : List ℕ) (z :
   unfolding answer_of
   one n e h = h ∙ ap (λ (y : Question). answer_of y number bytes l o) (sym e)
 
-  pub summed : x ≡ question.Summary → z ≡ by-count bytes l o (count_of l) → z ≡ answer_of x number bytes l o
+  pub summed : x ≡ question.Summary → z ≡ by_count bytes l o (count_of l) → z ≡ answer_of x number bytes l o
   unfolding answer_of
   summed e h = h ∙ ap (λ (y : Question). answer_of y number bytes l o) (sym e)
 

@@ -56,20 +56,20 @@ earlier-take s (u ∷ l) = ap (λ (x : List ℕ). s.duration ∷ x) (earlier-tak
 
 -- by the first size and the first duration that is 0: a and b come before, n durations were asked, and the samples count
 -- on behind k
-abbrev pub first-by : ℕ → ℕ → ℕ → ℕ → ℕ → Answer
-first-by t k n a b = when (leb a b) (found (of_sample 2 t (k + a + 1))) (when (ltb b n) (found (of_sample 3 t (k + b + 1))) passes)
+abbrev pub first_by : ℕ → ℕ → ℕ → ℕ → ℕ → Answer
+first_by t k n a b = when (leb a b) (found (of_sample 2 t (k + a + 1))) (when (ltb b n) (found (of_sample 3 t (k + b + 1))) passes)
 
 module _ (t k n a b : ℕ) where
-  by_size : a ≤ b → found (of_sample 2 t (k + a + 1)) ≡ first-by t k n a b
+  by_size : a ≤ b → found (of_sample 2 t (k + a + 1)) ≡ first_by t k n a b
   by_size h = by-true _ _ _ (leb a b) (le-leb a b h) refl
 
-  by-duration : b < a → b < n → found (of_sample 3 t (k + b + 1)) ≡ first-by t k n a b
+  by-duration : b < a → b < n → found (of_sample 3 t (k + b + 1)) ≡ first_by t k n a b
   by-duration h q = by-false _ _ _ (leb a b) (lt-leb a b h) (by-true _ _ _ (ltb b n) (lt-ltb b n q) refl)
 
-  by-none : b < a → n ≤ b → passes ≡ first-by t k n a b
+  by-none : b < a → n ≤ b → passes ≡ first_by t k n a b
   by-none h q = by-false _ _ _ (leb a b) (lt-leb a b h) (by-false _ _ _ (ltb b n) (le-ltb b n q) refl)
 
-  by_next : first-by t (k + 1) n a b ≡ first-by t k (suc n) (suc a) (suc b)
+  by_next : first_by t (k + 1) n a b ≡ first_by t k (suc n) (suc a) (suc b)
   by_next =
       let e : k + 1 + a + 1 ≡ k + suc a + 1 = omega arith in
       let h : k + 1 + b + 1 ≡ k + suc b + 1 = omega arith in
@@ -96,10 +96,10 @@ module _ (t : ℕ) (s : Sample) (l : List Answer) where
   not-idle e = ap (λ (b : Bool). first_found (when b (found (F3 (claim t s))) passes ∷ l)) e
 
 pub first-is : (t k : ℕ) (s : Sample) (l : List Sample) → From k (s ∷ l)
-    → first_found (passed_in t (s ∷ l)) ≡ first-by t k (length l) (before_zero (sizes_in (s ∷ l))) (before_zero (earlier (s ∷ l)))
+    → first_found (passed_in t (s ∷ l)) ≡ first_by t k (length l) (before_zero (sizes_in (s ∷ l))) (before_zero (earlier (s ∷ l)))
 first-is t k s [] w = cases (eqb s.size 0) refl
   where
-    cases : (a : Bool) → eqb s.size 0 ≡ a → first_found (passed_in t (s ∷ [])) ≡ first-by t k 0 (before_zero (s.size ∷ [])) 0
+    cases : (a : Bool) → eqb s.size 0 ≡ a → first_found (passed_in t (s ∷ [])) ≡ first_by t k 0 (before_zero (s.size ∷ [])) 0
     cases true e =
         empty t s [] e ∙ ap (λ (x : ℕ). found (of_sample 2 t x)) (omega (arith, w.0, zero-first s.size [] e))
         ∙ by_size t k 0 (before_zero (s.size ∷ [])) 0 (omega (arith, zero-first s.size [] e))
@@ -108,8 +108,8 @@ first-is t k s [] w = cases (eqb s.size 0) refl
 first-is t k s (u ∷ l) w = cases (eqb s.size 0) (eqb s.duration 0) refl refl (first-is t (k + 1) u l w.1)
   where
     cases : (x y : Bool) → eqb s.size 0 ≡ x → eqb s.duration 0 ≡ y
-        → first_found (passed_in t (u ∷ l)) ≡ first-by t (k + 1) (length l) (before_zero (sizes_in (u ∷ l))) (before_zero (earlier (u ∷ l)))
-        → first_found (passed_in t (s ∷ u ∷ l)) ≡ first-by t k (suc (length l)) (before_zero (s.size ∷ sizes_in (u ∷ l))) (before_zero (s.duration ∷ earlier (u ∷ l)))
+        → first_found (passed_in t (u ∷ l)) ≡ first_by t (k + 1) (length l) (before_zero (sizes_in (u ∷ l))) (before_zero (earlier (u ∷ l)))
+        → first_found (passed_in t (s ∷ u ∷ l)) ≡ first_by t k (suc (length l)) (before_zero (s.size ∷ sizes_in (u ∷ l))) (before_zero (s.duration ∷ earlier (u ∷ l)))
     cases true y e d ih =
         empty t s (lasting (claim t s) ∷ passed_in t (u ∷ l)) e
         ∙ ap (λ (x : ℕ). found (of_sample 2 t x)) (omega (arith, w.0, zero-first s.size (sizes_in (u ∷ l)) e))
@@ -126,7 +126,7 @@ first-is t k s (u ∷ l) w = cases (eqb s.size 0) (eqb s.duration 0) refl refl (
         ∙ not-idle t s (passed_in t (u ∷ l)) d
         ∙ ih
         ∙ by_next t k (length l) (before_zero (sizes_in (u ∷ l))) (before_zero (earlier (u ∷ l)))
-        ∙ ap₂ (λ (x y : ℕ). first-by t k (suc (length l)) x y) (sym (not_first s.size (sizes_in (u ∷ l)) e)) (sym (not_first s.duration (earlier (u ∷ l)) d))
+        ∙ ap₂ (λ (x y : ℕ). first_by t k (suc (length l)) x y) (sym (not_first s.size (sizes_in (u ∷ l)) e)) (sym (not_first s.duration (earlier (u ∷ l)) d))
 
 -- WHAT THE TABLES SAY
 
@@ -187,13 +187,13 @@ before-few (suc k) (x ∷ l) = cases (eqb x 0) refl (before-few k l)
 -- ONE LAW FOR EACH RETURN
 
 first-all : (t n : ℕ) (l : List Sample) → From 0 l → n ≡ length l → (n ≡ 0 → ⊥)
-    → first_found (passed_in t l) ≡ first-by t 0 (n - 1) (before_zero (sizes_in l)) (before_zero (take (n - 1) (durations_in l)))
+    → first_found (passed_in t l) ≡ first_by t 0 (n - 1) (before_zero (sizes_in l)) (before_zero (take (n - 1) (durations_in l)))
 first-all t n [] w e h = absurd (h e)
 first-all t n (s ∷ l) w e h =
     let q : length l ≡ n - 1 = omega (arith, e) in
     first-is t 0 s l w
-    ∙ ap (λ (x : List ℕ). first-by t 0 (length l) (before_zero (sizes_in (s ∷ l))) (before_zero x)) (earlier-take s l)
-    ∙ ap (λ (x : ℕ). first-by t 0 x (before_zero (sizes_in (s ∷ l))) (before_zero (take x (durations_in (s ∷ l))))) q
+    ∙ ap (λ (x : List ℕ). first_by t 0 (length l) (before_zero (sizes_in (s ∷ l))) (before_zero x)) (earlier-take s l)
+    ∙ ap (λ (x : ℕ). first_by t 0 x (before_zero (sizes_in (s ∷ l))) (before_zero (take x (durations_in (s ∷ l))))) q
 
 -- by an answer about samples that fit
 module _ (t : ℕ) (l : List Sample) where
@@ -227,7 +227,7 @@ module _ (f : List ℕ) (track : Track) (t : ℕ) (r : Counted) (er : r ≡ coun
       pub lasting-few : b ≤ n - 1
       lasting-few = omega (arith, eb, before-few (n - 1) (values_of (pairs f track.stts)))
 
-      first-by : first-by t 0 (n - 1) a b ≡ first_found (passed_in t (samples_of f track))
+      first-by : first_by t 0 (n - 1) a b ≡ first_found (passed_in t (samples_of f track))
       first-by =
           let z : before_zero (sizes_in (samples_of f track)) ≡ a =
           ap before_zero (sizes-are f track) ∙ ap (λ (k : ℕ). before_zero (listed (size_at f track.stsz) k)) (sym fit.1) ∙ sym ea in
@@ -235,7 +235,7 @@ module _ (f : List ℕ) (track : Track) (t : ℕ) (r : Counted) (er : r ≡ coun
           ap (λ (x : List ℕ). before_zero (take (n - 1) x)) (durations-are f track)
           ∙ ap before_zero (take-take (n - 1) (length (samples_of f track)) (values_of (pairs f track.stts)) (omega (arith, fit.1)))
           ∙ sym eb in
-          sym (first-all t n (samples_of f track) (numbers-are f track) fit.1 some ∙ ap₂ (λ (x y : ℕ). first-by t 0 (n - 1) x y) z d)
+          sym (first-all t n (samples_of f track) (numbers-are f track) fit.1 some ∙ ap₂ (λ (x y : ℕ). first_by t 0 (n - 1) x y) z d)
 
       pub pass-size : (x : Finding) → a ≤ b → x ≡ of_sample 2 t (a + 1) → Found x ≡ passed_of t (samples_of f track)
       pass-size x h e =

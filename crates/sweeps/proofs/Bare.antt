@@ -9,7 +9,7 @@ use lib.ListN.{length}
 use lib.Dec.{ltb, leb, eqb}
 use Rattle.numbers.specs.Field.{when}
 use Rattle.samples.specs.declared.Sample.{Sample}
-use Rattle.samples.specs.Lists.{held, all-held}
+use Rattle.samples.specs.Lists.{held, all_held}
 use Rattle.tables.specs.declared.Track as tables
 use Rattle.tables.specs.Tables.{values_of, pairs, groups, chunks, sizes, shifts, syncs}
 use Rattle.tables.specs.Samples.{place, samples_of}
@@ -131,18 +131,18 @@ bare_twice [] = refl
 bare_twice (s ∷ l) = ap (λ (k : List Sample). bare s ∷ k) (bare_twice l)
 
 -- a sample fits no less without its times
-all-held : (l : List Sample) → all-held l ≡ true → all-held (map bare l) ≡ true
+all-held : (l : List Sample) → all_held l ≡ true → all_held (map bare l) ≡ true
 all-held [] e = refl
 all-held (s ∷ l) e = cases (ltb s.number (2 ^ 32)) (ltb (s.offset + s.size) (2 ^ 64)) (ltb s.time (2 ^ 63)) e (all-held l)
   where
-    cases : (x y z : Bool) → (x && (y && z)) && all-held l ≡ true → (all-held l ≡ true → all-held (map bare l) ≡ true) → (x && (y && true)) && all-held (map bare l) ≡ true
+    cases : (x y z : Bool) → (x && (y && z)) && all_held l ≡ true → (all_held l ≡ true → all_held (map bare l) ≡ true) → (x && (y && true)) && all_held (map bare l) ≡ true
     cases true true true e ih = ih e
     cases true true false e ih = let z : ◌≡◌ {A = ℕ} 0 1 = cc in absurd (omega arith)
     cases true false z e ih = let z : ◌≡◌ {A = ℕ} 0 1 = cc in absurd (omega arith)
     cases false y z e ih = let z : ◌≡◌ {A = ℕ} 0 1 = cc in absurd (omega arith)
 
 -- where there is a duration for each size and every sample fits, the places are those of the samples
-pub sites-are : (f : List ℕ) (t : tables.Track) → length (sizes f t.stsz) ≤ length (values_of (pairs f t.stts)) → all-held (samples_of f t) ≡ true
+pub sites-are : (f : List ℕ) (t : tables.Track) → length (sizes f t.stsz) ≤ length (values_of (pairs f t.stts)) → all_held (samples_of f t) ≡ true
     → map bare (fitting (sites_of f t)) ≡ map bare (samples_of f t)
 sites-are f t h e =
     let q : map bare (samples_of f t) ≡ sites_of f t = sites-zipped 0 0 (sizes f t.stsz) (values_of (pairs f t.stts)) (place (values_of (groups f t.stsc t.stco.count)) (chunks f t.stco) (sizes f t.stsz)) (shifts f t.ctts) (syncs f t.stss) h in

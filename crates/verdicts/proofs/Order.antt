@@ -8,7 +8,7 @@ use lib.ListN.{length}
 use lib.Dec.{leb, eqb}
 use Rattle.numbers.specs.Field.{when}
 use Rattle.samples.specs.declared.Sample.{Sample}
-use Rattle.verdicts.specs.Findings.{Track, track, Claim, claim, Span, F1, F2, F3, F4, F5, F7, F8, Answer, passes, found, first-found}
+use Rattle.verdicts.specs.Findings.{Track, track, Claim, claim, Span, F1, F2, F3, F4, F5, F7, F8, Answer, passes, found, first_found}
 use Rattle.verdicts.specs.declared.Finding.{Finding}
 use Rattle.verdicts.specs.Sweep.{in_some, misplaced, below, heads, advance, leftover, stop, go, rest, take, step, cont, run, total, sweep_from, sweep}
 use Rattle.verdicts.specs.Fragments.{Traf, Moof, Due, free, due, fits, gap_of, next_number, next_time, Clock, clocks_of, own_trafs, timed, timed_all, clocks_after, follow_from, follow}
@@ -27,7 +27,7 @@ use Rattle.verdicts.proofs.Passing.{Passing, agree-sound, pass-sound}
 abbrev pub FirstIn : List Answer → Finding → Type 0
 FirstIn l f = (earlier : List Answer) × (after : List Answer) × (l ≡ earlier ++ (found f ∷ after)) × All Passing earlier
 
-first-found : (l : List Answer) (f : Finding) → first-found l ≡ found f → FirstIn l f
+first-found : (l : List Answer) (f : Finding) → first_found l ≡ found f → FirstIn l f
 first-found [] f e = let z : ◌≡◌ {A = ℕ} 0 1 = cc in absurd (omega arith)
 first-found (passes ∷ l) f e =
     let (earlier, after, q, h) = first-found l f e in
@@ -45,7 +45,7 @@ module _ (ts : List Track) (m : List Span) where
 
 pub audit-first : (ts : List Track) (m : List Span) (fs : List Moof) (f : Finding) → audit_of ts m fs ≡ Found f → FirstIn (questions ts m fs) f
 unfolding audit_of
-audit-first ts m fs f e = first-found (questions ts m fs) f (of-verdict ts m (first-found (questions ts m fs)) f e)
+audit-first ts m fs f e = first-found (questions ts m fs) f (of-verdict ts m (first_found (questions ts m fs)) f e)
 
 -- BY PARTS, for what asks them one after the other
 
@@ -53,23 +53,23 @@ abbrev pub or_else : Answer → Answer → Answer
 or_else passes a = a
 or_else (found f) a = found f
 
-pub first-join : (l r : List Answer) → first-found (l ++ r) ≡ or_else (first-found l) (first-found r)
+pub first-join : (l r : List Answer) → first_found (l ++ r) ≡ or_else (first_found l) (first_found r)
 first-join [] r = refl
 first-join (passes ∷ l) r = first-join l r
 first-join (found f ∷ l) r = refl
 
-first_one : (a : Answer) (l : List Answer) → first-found (a ∷ l) ≡ or_else a (first-found l)
+first_one : (a : Answer) (l : List Answer) → first_found (a ∷ l) ≡ or_else a (first_found l)
 first_one passes l = refl
 first_one (found f) l = refl
 
 pub audit-parts : (ts : List Track) (m : List Span) (fs : List Moof)
-    → audit_of ts m fs ≡ verdict ts m (or_else (first-found (agreements ts)) (or_else (first-found (passed ts)) (or_else (sweep m ts) (first-found (follow ts fs)))))
+    → audit_of ts m fs ≡ verdict ts m (or_else (first_found (agreements ts)) (or_else (first_found (passed ts)) (or_else (sweep m ts) (first_found (follow ts fs)))))
 unfolding audit_of questions
 audit-parts ts m fs =
     ap (verdict ts m)
     (first-join (agreements ts) (passed ts ++ (sweep m ts ∷ follow ts fs))
-    ∙ ap (or_else (first-found (agreements ts)))
-    (first-join (passed ts) (sweep m ts ∷ follow ts fs) ∙ ap (or_else (first-found (passed ts))) (first_one (sweep m ts) (follow ts fs))))
+    ∙ ap (or_else (first_found (agreements ts)))
+    (first-join (passed ts) (sweep m ts ∷ follow ts fs) ∙ ap (or_else (first_found (passed ts))) (first_one (sweep m ts) (follow ts fs))))
 
 -- BY KIND: what number the finding of a question has
 
@@ -170,28 +170,28 @@ follow-kind d cs (m ∷ ms) = (
       (follow-kind (due (next_number m.number)) (clocks_after m cs) ms),
 )
 
-not-among : (k : ℕ) (l : List Answer) (f : Finding) → All (From k) l → f.number < k → first-found l ≡ found f → ⊥
+not-among : (k : ℕ) (l : List Answer) (f : Finding) → All (From k) l → f.number < k → first_found l ≡ found f → ⊥
 not-among k [] f h g e = let z : ◌≡◌ {A = ℕ} 0 1 = cc in omega arith
 not-among k (passes ∷ l) f h g e = not-among k l f h.1 g e
 not-among k (found q ∷ l) f h g e = omega (arith, h.0, ap number_in e)
 
 -- a finding of a later kind is not among these, and they all pass
-beyond : (k : ℕ) (l r : List Answer) (f : Finding) → All (UpTo k) l → k < f.number → first-found (l ++ r) ≡ found f
-    → All Passing l × (first-found r ≡ found f)
+beyond : (k : ℕ) (l r : List Answer) (f : Finding) → All (UpTo k) l → k < f.number → first_found (l ++ r) ≡ found f
+    → All Passing l × (first_found r ≡ found f)
 beyond k [] r f h g e = (tt, e)
 beyond k (passes ∷ l) r f h g e = let i = beyond k l r f h.1 g e in ((refl, i.0), i.1)
 beyond k (found q ∷ l) r f h g e = absurd (omega (arith, h.0, ap number_in e))
 
 module _ (ts : List Track) (m : List Span) (fs : List Moof) (f : Finding) (e : audit_of ts m fs ≡ Found f) where
-  first : first-found (questions ts m fs) ≡ found f
+  first : first_found (questions ts m fs) ≡ found f
   unfolding audit_of
-  first = of-verdict ts m (first-found (questions ts m fs)) f e
+  first = of-verdict ts m (first_found (questions ts m fs)) f e
 
-  after-agreements : 1 < f.number → All Passing (agreements ts) × (first-found (passed ts ++ (sweep m ts ∷ follow ts fs)) ≡ found f)
+  after-agreements : 1 < f.number → All Passing (agreements ts) × (first_found (passed ts ++ (sweep m ts ∷ follow ts fs)) ≡ found f)
   unfolding questions
   after-agreements h = beyond 1 (agreements ts) (passed ts ++ (sweep m ts ∷ follow ts fs)) f (agreements-kind ts) h first
 
-  after-pass : 3 < f.number → All Passing (passed ts) × (first-found (sweep m ts ∷ follow ts fs) ≡ found f)
+  after-pass : 3 < f.number → All Passing (passed ts) × (first_found (sweep m ts ∷ follow ts fs) ≡ found f)
   after-pass h = beyond 3 (passed ts) (sweep m ts ∷ follow ts fs) f (passed-kind ts) h (after-agreements (omega arith)).1
 
   after-sweep : 6 < f.number → Passing (sweep m ts)
@@ -209,7 +209,7 @@ module _ (ts : List Track) (m : List Span) (fs : List Moof) (f : Finding) (e : a
   pub then-stopped : 3 < f.number → f.number < 7 → Ends m m ts (found f)
   then-stopped h g = subst (Ends m m ts) (cases (sweep m ts) (after-pass h).1) (sweep-ends m ts)
     where
-      cases : (a : Answer) → first-found (a ∷ follow ts fs) ≡ found f → a ≡ found f
+      cases : (a : Answer) → first_found (a ∷ follow ts fs) ≡ found f → a ≡ found f
       cases passes q = absurd (not-among 7 (follow ts fs) f (follow-kind free (clocks_of ts) fs) g q)
       cases (found x) q = q
 

@@ -1,0 +1,13 @@
+use Prim.Native.Nat.{ℕ, ◌-◌, ◌≤◌}
+use mathlib.Core.Path.{◌≡◌}
+use lib.ListN.{length}
+use Rattle.children.specs.Children.{row_of, first_in}
+use Rattle.children.proofs.first_from.Given as goal
+
+abbrev pub invariant-loop-at : goal.invariant-loop-at
+invariant-loop-at l =
+    (f : ℕ) × (length l.s - l.at ≤ f) × (first_in l.kind (row_of f l.s l.at) ≡ first_in l.kind (row_of (length l.s - l.from) l.s l.from))
+
+abbrev pub decreases-loop-at : goal.decreases-loop-at
+decreases-loop-at l =
+    length l.s - l.at

@@ -1,0 +1,19 @@
+use Prim.Native.Nat.{ℕ, ◌^◌}
+use mathlib.Core.List.{List, [], ◌∷◌}
+use mathlib.Core.Bool.{Bool}
+use lib.ListN.{get_or}
+use lib.Dec.{eqb, eqb→eq}
+use Rattle.numbers.proofs.Table.{at}
+use borrow.Author.Rules.{rules}
+use Rattle.put.proofs.power.Goals as goal
+
+powers : List ℕ
+powers = 1 ∷ 0x100 ∷ 0x1_0000 ∷ 0x100_0000 ∷ 0x1_0000_0000 ∷ 0x100_0000_0000 ∷ 0x1_0000_0000_0000 ∷ 0x100_0000_0000_0000 ∷ []
+
+right : ℕ → ℕ → Bool
+right w x = eqb x (256 ^ w)
+
+pub returns : goal.returns
+unfolding powers right
+returns c =
+    eqb→eq (get_or powers c.args.w 0) (256 ^ c.args.w) (at right powers tt c.args.w (search rules))
