@@ -1,0 +1,5 @@
+use Rattle.figures.proofs.put.Goals as goal
+
+pub returns : goal.returns
+returns c =
+    cc

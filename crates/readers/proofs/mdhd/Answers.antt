@@ -1,0 +1,11 @@
+use mathlib.Core.Path.{sym, ap, ◌∙◌}
+use Rattle.readers.specs.Readers.{mdhd_fault}
+use Rattle.readers.proofs.mdhd.Goals as goal
+
+pub returns-in-Is : goal.returns-in-Is
+returns-in-Is c =
+    ap mdhd_fault (sym c.in-Is.is ∙ c.read.ensures)
+
+pub returns-in-Refused : goal.returns-in-Refused
+returns-in-Refused c =
+    ap mdhd_fault (sym c.in-Refused.is ∙ c.read.ensures)

@@ -1,0 +1,11 @@
+use mathlib.Core.Path.{sym, ap, ◌∙◌}
+use Rattle.readers.specs.Readers.{url_fault}
+use Rattle.readers.proofs.url.Goals as goal
+
+pub returns-in-Is : goal.returns-in-Is
+returns-in-Is c =
+    ap url_fault (sym c.in-Is.is ∙ c.read.ensures)
+
+pub returns-in-Refused : goal.returns-in-Refused
+returns-in-Refused c =
+    ap url_fault (sym c.in-Refused.is ∙ c.read.ensures)

@@ -1,0 +1,16 @@
+use Rattle.stss.specs.Stss.{stss_of}
+use Rattle.stbl.specs.Stbl.{stss_read}
+use Rattle.stbl.proofs.Laws.{not_there, read-there}
+use Rattle.stbl.proofs.stss_at.Goals as goal
+
+pub returns-in_default : goal.returns-in_default
+returns-in_default c =
+    not_there stss_of stss_read _ _ c.in_default.is
+
+pub returns-in-Is : goal.returns-in-Is
+returns-in-Is c =
+    read-there stss_of stss_read _ _ _ _ c.in-At.is _ c.part.ensures _ _ c.read.ensures c.in-Is.is _ c.entries_at.ensures
+
+pub returns-in-Refused : goal.returns-in-Refused
+returns-in-Refused c =
+    read-there stss_of stss_read _ _ _ _ c.in-At.is _ c.part.ensures _ _ c.read.ensures c.in-Refused.is _ c.moved_by.ensures
