@@ -1,4 +1,4 @@
-/* The functions of libwitness.a, which is made by `rt staticlib witness` for Linux on x86-64.
+/* The functions of libwitness.a, which `rt lib` makes in crates/witness, for Linux on x86-64.
 
    Each of them takes the bytes of a file and answers 0 where the question is answered, else the number of a refusal:
 

@@ -10,7 +10,7 @@
 //!
 //! # To build with it
 //!
-//! `rt staticlib witness` proves the library and makes `target/staticlib/libwitness.a`. With that, cargo builds this folder
+//! `rt lib` in `crates/witness` proves the library and makes `out/libwitness.a` there. With that, cargo builds this folder
 //! like any other crate, for Linux on x86-64; `FRAMEWITNESS_ARCHIVE` names another folder in which the archive is.
 //!
 //! # To audit a file

@@ -1,6 +1,5 @@
-//! The tests of the crate: `host/run OUT/tests TOP`, where TOP is the repository's top; without it, the folder above.
+//! The tests of the crate: `OUT/tests TOP`, where TOP is the repository's top; without it, the folder above.
 //! A line for each failure; the last line counts; the status is 1 where one failed.
-#![no_main] // the start of Rust's own main reads /proc/self/maps, at which the kit's emulator stops
 #![deny(dead_code)] // a test that is not in the list
 
 #[path = "../examples/audit.rs"]
@@ -19,6 +18,7 @@ mod words;
 
 use files::Files;
 use std::panic;
+use std::process::ExitCode;
 
 type Test = fn(&Files);
 
@@ -63,8 +63,7 @@ const TESTS: &[(&str, Test)] = &[
     }),
 ];
 
-#[no_mangle]
-pub extern "C" fn main(_count: i32, _arguments: *const *const u8) -> i32 {
+fn main() -> ExitCode {
     let files = Files::of(std::env::args_os().nth(1).unwrap_or("..".into()).as_ref());
     let mut failed = 0;
     for &(name, test) in TESTS {
@@ -76,5 +75,5 @@ pub extern "C" fn main(_count: i32, _arguments: *const *const u8) -> i32 {
         }
     }
     println!("{} passed, {failed} failed", TESTS.len() - failed);
-    (failed > 0).into()
+    ExitCode::from((failed > 0) as u8)
 }

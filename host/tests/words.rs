@@ -149,12 +149,12 @@ pub fn are_the_program_s(files: &Files) {
     let findings = FINDINGS.iter().map(|f| f.meaning());
     let refusals = REFUSALS[..10].iter().map(|r| r.meaning());
     for meaning in findings.chain(refusals) {
-        let quoted = format!("b\"{meaning}\"");
+        let quoted = format!("\"{meaning}\"");
         let at = rest
             .find(&quoted)
             .unwrap_or_else(|| panic!("{quoted} does not come next"));
         assert_eq!(
-            rest[..at].matches("b\"").count(),
+            rest[..at].matches('"').count(),
             0,
             "the program has one more before {quoted}"
         );

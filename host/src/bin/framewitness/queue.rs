@@ -31,7 +31,7 @@ pub fn tell_all(task: Task, names: &[OsString], jobs: usize) -> Status {
     told.unwrap_or_else(|_| output::unwritten())
 }
 
-/// Without a thread, since an emulator takes several times as long for the same instructions in one.
+/// Without a thread, in which the emulator that counts instructions (speed/count) takes several times as long for the same.
 fn one_by_one(task: Task, names: &[OsString], output: &mut Output) -> io::Result<Status> {
     let mut progress = Progress::new(names.len());
     let mut status = Status::Clean;
