@@ -1,0 +1,12 @@
+use Prim.Native.Nat.{◌-◌, ◌^◌}
+use mathlib.Core.Path.{sym, ap}
+use Rattle.emsg.proofs.Puts.{wide-0, wide-1}
+use Rattle.emsg_write.proofs.most_time.Goals as goal
+
+pub returns-then-version-eq0 : goal.returns-then-version-eq0
+returns-then-version-eq0 c =
+    ap (λ w. 256 ^ w - 1) (sym (wide-0 c.args.version c.if-version-eq0.true))
+
+pub returns-else-version-eq0 : goal.returns-else-version-eq0
+returns-else-version-eq0 c =
+    ap (λ w. 256 ^ w - 1) (sym (wide-1 c.args.version c.if-version-eq0.false))
