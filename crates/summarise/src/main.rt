@@ -4,18 +4,21 @@
 // For each row there is a line: `refused` with the number and the detail; or the frame rate, the width and the height, each
 // as its whole part and the 65,536ths behind it, and the microseconds. Words have a tab between them. What is left behind
 // the last whole row is not looked at.
-use libc::{STDIN_FILENO, STDOUT_FILENO};
+ghost use Rattle.std.specs.Prelude.{◌≤◌, length};
+
 use numbers::{Refusal, U32, U64};
+use std::io::Read;
 use summary::{Summary, Summed};
 
 const ROW: usize = 24;
 
-fn text(s: &[u8]) {
-    io::write_all(STDOUT_FILENO, s);
+// What can not be written is left out.
+fn text(rt: &impl Print, s: &[u8]) {
+    let _ = rt.write_all(s);
 }
 
-fn number(n: u64) {
-    io::print_decimal(STDOUT_FILENO, n);
+fn number(rt: &impl Print, n: u64) {
+    let _ = rt.print(n);
 }
 
 // Tested against both ends, since no other number has a whole part of 64 bits.
@@ -28,29 +31,29 @@ fn whole(x: f64) -> u64 {
     0
 }
 
-fn print_figure(x: f64) {
+fn print_figure(rt: &impl Print, x: f64) {
     let n = whole(x);
     let behind = x - std::num::nearest_u64_to_f64(n);
-    number(n);
-    text(b"\t");
-    number(whole(behind * 65536.0));
-    text(b"\t");
+    number(rt, n);
+    text(rt, b"\t");
+    number(rt, whole(behind * 65536.0));
+    text(rt, b"\t");
 }
 
-fn print_summary(s: Summary) {
-    print_figure(s.frame_rate);
-    print_figure(s.width);
-    print_figure(s.height);
-    number(s.micros);
-    text(b"\n");
+fn print_summary(rt: &impl Print, s: Summary) {
+    print_figure(rt, s.frame_rate);
+    print_figure(rt, s.width);
+    print_figure(rt, s.height);
+    number(rt, s.micros);
+    text(rt, b"\n");
 }
 
-fn print_refusal(q: Refusal) {
-    text(b"refused\t");
-    number(q.number as u64);
-    text(b"\t");
-    number(q.detail as u64);
-    text(b"\n");
+fn print_refusal(rt: &impl Print, q: Refusal) {
+    text(rt, b"refused\t");
+    number(rt, q.number as u64);
+    text(rt, b"\t");
+    number(rt, q.detail as u64);
+    text(rt, b"\n");
 }
 
 fn four(row: &[u8], at: usize) -> u32 {
@@ -67,7 +70,7 @@ fn eight(row: &[u8], at: usize) -> u64 {
     }
 }
 
-fn print_row(row: &[u8]) {
+fn print_row(rt: &impl Print, row: &[u8]) {
     let told = summary::of(
         four(row, 0),
         eight(row, 4),
@@ -76,25 +79,37 @@ fn print_row(row: &[u8]) {
         four(row, 20),
     );
     match told {
-        Summed::Is(s) => print_summary(s),
-        Summed::Refused(q) => print_refusal(q),
+        Summed::Is(s) => print_summary(rt, s),
+        Summed::Refused(q) => print_refusal(rt, q),
     }
 }
 
-fn print_rows(rows: &[u8]) {
-    let mut at = 0;
-    while at < rows.len() {
-        if rows.len() - at < ROW {
-            return;
+fn print_rows(rt: &impl Print, rows: &[u8]) {
+    for row in rows.chunks_exact(ROW) {
+        print_row(rt, row);
+    }
+}
+
+// How many bytes were read, until the room is full, the input ends or a read fails.
+fn read_full(from: &mut impl Read, room: &mut [u8]) -> usize
+    ensures { result ≤ length room.new }
+{
+    let mut done = 0;
+    for _ in 0..u64::MAX {
+        if done >= room.len() {
+            break;
         }
-        let end = at + ROW;
-        print_row(&rows[at..end]);
-        at = end;
+        match from.read(&mut room[done..]) {
+            Ok(0) => break,
+            Ok(n) => done += n,
+            Err(_) => break,
+        }
     }
+    done.min(room.len())
 }
 
-fn main() {
-    let mut buffer = io::large_buffer();
-    let got = io::read_full(STDIN_FILENO, &mut buffer);
-    print_rows(&buffer[..got]);
+fn main(rt: HostRuntime) {
+    let mut buffer = [0u8; 65536];
+    let got = read_full(&mut rt.stdin(), &mut buffer);
+    print_rows(&rt, &buffer[..got]);
 }
