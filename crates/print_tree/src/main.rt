@@ -1,43 +1,54 @@
 #![tactic(auto)]
 // Prints the box tree of each file that an argument names: a line for each box with its depth, type, start, size and
 // whether it stands in its place; then how many there are, or the first fault behind them.
-use libc::STDOUT_FILENO;
+ghost use Rattle.std.specs.Prelude.{◌≤◌, length};
+
+use std::env::{Env, FillError};
+use std::fmt::Display;
+use std::fs;
+use std::io::Read;
 use tree::Scanned;
+
+// What can not be written is left out.
+fn text(rt: &impl Print, s: &[u8]) {
+    let _ = rt.write_all(s);
+}
 
 // A type is printed as its letters; a byte that is no printable ASCII as '?'.
 fn letter(b: u8) -> u8 {
     if (b < 0x20) | (0x7e < b) { b'?' } else { b }
 }
 
-fn print_kind(kind: u32) {
+fn print_kind(rt: &impl Print, kind: u32) {
     let mut letters = types::letters::of_number(kind);
     letters[0] = letter(letters[0]);
     letters[1] = letter(letters[1]);
     letters[2] = letter(letters[2]);
     letters[3] = letter(letters[3]);
-    io::write_all(STDOUT_FILENO, &letters);
+    text(rt, &letters);
 }
 
-fn print_number(n: usize) {
-    io::print_decimal(STDOUT_FILENO, n as u64);
+fn print_number(rt: &impl Print, n: usize) {
+    let _ = rt.print(n);
 }
 
-fn print_box(depth: usize, kind: usize, start: usize, size: usize, placed: usize) {
-    print_number(depth);
-    io::write_all(STDOUT_FILENO, b" ");
-    print_kind((kind % 0x1_0000_0000) as u32);
-    io::write_all(STDOUT_FILENO, b" ");
-    print_number(start);
-    io::write_all(STDOUT_FILENO, b" ");
-    print_number(size);
+fn print_box(rt: &impl Print, depth: usize, kind: usize, start: usize, size: usize, placed: usize) {
+    print_number(rt, depth);
+    text(rt, b" ");
+    print_kind(rt, (kind % 0x1_0000_0000) as u32);
+    text(rt, b" ");
+    print_number(rt, start);
+    text(rt, b" ");
+    print_number(rt, size);
     if placed == 1 {
-        io::write_all(STDOUT_FILENO, b" placed\n");
+        text(rt, b" placed\n");
     } else {
-        io::write_all(STDOUT_FILENO, b" elsewhere\n");
+        text(rt, b" elsewhere\n");
     }
 }
 
 fn print_boxes(
+    rt: &impl Print,
     n: usize,
     depths: &[usize; 4096],
     kinds: &[usize; 4096],
@@ -45,17 +56,12 @@ fn print_boxes(
     sizes: &[usize; 4096],
     placed: &[usize; 4096],
 ) {
-    let mut i = 0;
-    while i < 4096 {
-        if n <= i {
-            return;
-        }
-        print_box(depths[i], kinds[i], starts[i], sizes[i], placed[i]);
-        i += 1;
+    for i in 0..n.min(4096) {
+        print_box(rt, depths[i], kinds[i], starts[i], sizes[i], placed[i]);
     }
 }
 
-fn print_tree(s: &[u8]) {
+fn print_tree(rt: &impl Print, s: &[u8]) {
     let mut starts = [0usize; 4096];
     let mut sizes = [0usize; 4096];
     let mut kinds = [0usize; 4096];
@@ -73,52 +79,98 @@ fn print_tree(s: &[u8]) {
     );
     match scanned {
         Scanned::Whole(n) => {
-            print_boxes(n, &depths, &kinds, &starts, &sizes, &placed);
-            print_number(n);
-            io::write_all(STDOUT_FILENO, b" boxes, whole\n");
+            print_boxes(rt, n, &depths, &kinds, &starts, &sizes, &placed);
+            print_number(rt, n);
+            text(rt, b" boxes, whole\n");
         }
         Scanned::Fault(n, refusal) => {
-            print_boxes(n, &depths, &kinds, &starts, &sizes, &placed);
-            print_number(n);
-            io::write_all(STDOUT_FILENO, b" boxes, then refusal ");
-            print_number(refusal.number as usize);
-            io::write_all(STDOUT_FILENO, b" at ");
-            print_number(refusal.detail);
-            io::write_all(STDOUT_FILENO, b"\n");
+            print_boxes(rt, n, &depths, &kinds, &starts, &sizes, &placed);
+            print_number(rt, n);
+            text(rt, b" boxes, then refusal ");
+            print_number(rt, refusal.number as usize);
+            text(rt, b" at ");
+            print_number(rt, refusal.detail);
+            text(rt, b"\n");
         }
     }
+}
+
+// How many bytes were read, until the room is full, the input ends or a read fails.
+fn read_full(from: &mut impl Read, room: &mut [u8]) -> usize
+    ensures { result ≤ length room.new }
+{
+    let mut done = 0;
+    for _ in 0..u64::MAX {
+        if done >= room.len() {
+            break;
+        }
+        match from.read(&mut room[done..]) {
+            Ok(0) => break,
+            Ok(n) => done += n,
+            Err(_) => break,
+        }
+    }
+    done.min(room.len())
 }
 
 // Files of up to 128 KiB: what lies behind that is not read.
-fn print_file(fd: i32) {
+fn print_file(rt: &impl Print, file: &mut impl Read) {
     let mut buffer = [0u8; 131072];
-    let got = io::read_full(fd, &mut buffer);
-    print_tree(&buffer[..got]);
+    let got = read_full(file, &mut buffer);
+    print_tree(rt, &buffer[..got]);
 }
 
-fn print_argument(i: usize) {
-    let mut path = io::buffer();
-    let length = os::arg(i, &mut path);
-    if os::errno() != 0 {
-        os::fail(b"argument");
-        return;
-    }
-    let fd = os::open_read(&path[..length]);
-    if fd < 0 {
-        os::fail(&path[..length]);
-        return;
-    }
-    io::write_all(STDOUT_FILENO, &path[..length]);
-    io::write_all(STDOUT_FILENO, b"\n");
-    print_file(fd);
-    libc::close(fd);
+// A line of standard error: what failed, and why.
+fn fail<D: Display + Drop>(rt: &HostRuntime, what: &[u8], why: D) {
+    let errors = rt.stderr();
+    text(&errors, what);
+    text(&errors, b": ");
+    let _ = errors.println(why);
 }
 
-fn main() {
-    let n = os::arg_count();
-    let mut i = 1;
-    while i < n {
-        print_argument(i);
-        i += 1;
+fn print_argument(rt: &HostRuntime, i: usize) {
+    let mut name = [0u8; 4096];
+    match rt.arg(i, &mut name) {
+        Ok(length) => print_named(rt, &name[..length]),
+        Err(_) => fail(rt, b"argument", "File name too long"),
+    }
+}
+
+// A name that is no UTF-8 can not be opened.
+fn print_named(rt: &HostRuntime, name: &[u8]) {
+    let Ok(path) = str::from_utf8(name) else {
+        fail(rt, name, "the name is no UTF-8");
+        return;
+    };
+    match fs::open(rt, path) {
+        Ok(mut file) => {
+            text(rt, name);
+            text(rt, b"\n");
+            print_file(rt, &mut file);
+        }
+        Err(e) => fail(rt, name, e),
+    }
+}
+
+fn is_there(rt: &impl Env, i: usize) -> bool {
+    match rt.arg(i, &mut [0u8; 0]) {
+        Err(FillError::NotPresent) => false,
+        _ => true,
+    }
+}
+
+// How many arguments there are, the program's own name among them.
+fn arg_count(rt: &impl Env) -> usize {
+    for i in 0..usize::MAX {
+        if !is_there(rt, i) {
+            return i;
+        }
+    }
+    usize::MAX
+}
+
+fn main(rt: HostRuntime) {
+    for i in 1..arg_count(&rt) {
+        print_argument(&rt, i);
     }
 }
