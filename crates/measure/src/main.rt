@@ -2,9 +2,13 @@
 // Does work that can be counted, with the tables of one stbl box, which it reads from its standard input. Each argument
 // is one round: `list` lists all samples into a lent buffer, `look` looks each of them up, `sync` asks of each whether it
 // is sync. Last it writes a number that all answers go into, so that none of them can be left out.
-use libc::{STDIN_FILENO, STDOUT_FILENO};
+ghost use Rattle.std.specs.Prelude.{◌≤◌, length};
+
 use lookup::Synced;
 use samples::Listed;
+use std::alloc::AllocError;
+use std::env::{Env, FillError};
+use std::io::Read;
 use tableboxes::Places;
 use tables::Track;
 
@@ -18,10 +22,8 @@ fn plus(a: u64, b: u64) -> u64 {
 // All numbers of the records.
 fn mixed(out: &[u64; 458752]) -> u64 {
     let mut mix: u64 = 0;
-    let mut i = 0;
-    while i < 458752 {
-        mix = plus(mix, out[i]);
-        i += 1;
+    for n in out {
+        mix = plus(mix, *n);
     }
     mix
 }
@@ -42,9 +44,7 @@ fn negative(c: i64) -> u64 {
 
 fn look(file: &[u8], track: Track) -> u64 {
     let mut mix: u64 = 0;
-    let mut number: u32 = 0;
-    while number < SAMPLES {
-        number += 1;
+    for number in 1..=SAMPLES {
         let samples::Found::Is(s) = locate::sample(file, track, number) else {
             return mix;
         };
@@ -59,9 +59,7 @@ fn look(file: &[u8], track: Track) -> u64 {
 
 fn sync(file: &[u8], track: Track) -> u64 {
     let mut many: u64 = 0;
-    let mut number: u32 = 0;
-    while number < SAMPLES {
-        number += 1;
+    for number in 1..=SAMPLES {
         let Synced::Is(yes) = lookup::is_sync(file, track, number) else {
             return many;
         };
@@ -87,39 +85,77 @@ fn round(file: &[u8], track: Track, letter: u8, out: &mut [u64; 458752]) -> u64 
     }
 }
 
-fn letter_of(i: usize) -> u8 {
-    let mut word = io::buffer();
-    os::arg(i, &mut word);
+fn letter_of(rt: &impl Env, i: usize) -> u8 {
+    let mut word = [0u8; 4096];
+    let _ = rt.arg(i, &mut word);
     word[1]
 }
 
-fn rounds(file: &[u8], track: Track) {
-    let mut out = [0u64; 458752];
-    let mut mix: u64 = 0;
-    let n = os::arg_count();
-    let mut i = 1;
-    while i < n {
-        mix = plus(mix, round(file, track, letter_of(i), &mut out));
-        i += 1;
+fn is_there(rt: &impl Env, i: usize) -> bool {
+    match rt.arg(i, &mut [0u8; 0]) {
+        Err(FillError::NotPresent) => false,
+        _ => true,
     }
-    io::print_decimal(STDOUT_FILENO, plus(mix, mixed(&out)));
-    io::write_all(STDOUT_FILENO, b"\n");
 }
 
-fn measure(stbl: &[u8]) {
+// How many arguments there are, the program's own name among them.
+fn arg_count(rt: &impl Env) -> usize {
+    for i in 0..usize::MAX {
+        if !is_there(rt, i) {
+            return i;
+        }
+    }
+    usize::MAX
+}
+
+// What can not be written is left out.
+fn text(rt: &impl Print, s: &[u8]) {
+    let _ = rt.write_all(s);
+}
+
+fn rounds<R: Env + Print>(rt: &R, file: &[u8], track: Track) {
+    let mut out = [0u64; 458752];
+    let mut mix: u64 = 0;
+    for i in 1..arg_count(rt) {
+        mix = plus(mix, round(file, track, letter_of(rt, i), &mut out));
+    }
+    let _ = rt.print(plus(mix, mixed(&out)));
+    text(rt, b"\n");
+}
+
+fn measure<R: Env + Print>(rt: &R, stbl: &[u8]) {
     let Places::Are(boxes) = tableboxes::find(stbl) else {
-        io::write_all(STDOUT_FILENO, b"no stbl\n");
+        text(rt, b"no stbl\n");
         return;
     };
     let stbl::Found::Is(track) = stbl::track(stbl, boxes) else {
-        io::write_all(STDOUT_FILENO, b"no track\n");
+        text(rt, b"no track\n");
         return;
     };
-    rounds(stbl, track);
+    rounds(rt, stbl, track);
 }
 
-fn main() {
-    let mut buffer = [0u8; 2621440];
-    let got = io::read_full(STDIN_FILENO, &mut buffer);
-    measure(&buffer[..got]);
+// How many bytes were read, until the room is full, the input ends or a read fails.
+fn read_full(from: &mut impl Read, room: &mut [u8]) -> usize
+    ensures { result ≤ length room.new }
+{
+    let mut done = 0;
+    for _ in 0..u64::MAX {
+        if done >= room.len() {
+            break;
+        }
+        match from.read(&mut room[done..]) {
+            Ok(0) => break,
+            Ok(n) => done += n,
+            Err(_) => break,
+        }
+    }
+    done.min(room.len())
+}
+
+fn main(rt: HostRuntime) -> Result<(), AllocError> {
+    let mut buffer = vec![in rt.alloc(); 0u8; 2621440]?;
+    let got = read_full(&mut rt.stdin(), buffer.as_mut_slice());
+    measure(&rt, &buffer.as_slice()[..got]);
+    Ok(())
 }
