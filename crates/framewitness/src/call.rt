@@ -1,5 +1,6 @@
 // What the first argument asks for. An option is one only there, so that any later argument is a file.
 use crate::say;
+use std::env::Env;
 
 #[derive(Clone, Copy)]
 pub(crate) enum Call {
@@ -21,12 +22,10 @@ fn same(a: &[u8], b: &[u8]) -> bool {
     if a.len() != b.len() {
         return false;
     }
-    let mut i = 0;
-    while i < a.len() {
+    for i in 0..a.len() {
         if a[i] != b[i] {
             return false;
         }
-        i += 1;
     }
     true
 }
@@ -51,23 +50,29 @@ fn of(word: &[u8]) -> Call {
 }
 
 // One that is missing, or too long for a path, is no option.
-pub(crate) fn first() -> Call {
-    let mut word = io::buffer();
-    let length = os::arg(1, &mut word);
-    of(&word[..length])
+pub(crate) fn first(rt: &impl Env) -> Call {
+    let mut word = [0u8; 4096];
+    match rt.arg(1, &mut word) {
+        Ok(length) => of(&word[..length]),
+        Err(_) => of(b""),
+    }
 }
 
 // What is wrong with the call, and what calls there are.
-pub(crate) fn wrong(why: Misuse) {
+pub(crate) fn wrong(rt: &impl Eprint, why: Misuse) {
     match why {
-        Misuse::NoFile => say::error(b"framewitness: no file is named\n"),
-        Misuse::NotOneFile => say::error(b"framewitness: --list takes one file\n"),
+        Misuse::NoFile => say::error(rt, "framewitness: no file is named\n"),
+        Misuse::NotOneFile => say::error(rt, "framewitness: --list takes one file\n"),
         Misuse::UnknownOption => {
-            say::error(b"framewitness: the first argument is no option that is known\n")
+            say::error(
+                rt,
+                "framewitness: the first argument is no option that is known\n",
+            )
         }
     };
     say::error(
-        b"    framewitness FILE ...       audits files\n\
+        rt,
+        "    framewitness FILE ...       audits files\n\
           \x20   framewitness -- FILE ...    the same, where the first name begins with -\n\
           \x20   framewitness --list FILE    lists the samples of a file\n\
           \x20   framewitness --help         explains the verdicts\n",

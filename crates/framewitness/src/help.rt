@@ -2,8 +2,9 @@
 use crate::{meanings, say};
 
 // The calls, what the audit asks, and a file's line.
-fn lines() -> bool {
+fn lines(rt: &impl Print) -> bool {
     say::text(
+        rt,
         b"framewitness FILE ...       audits files, and writes a line for each\n\
           framewitness -- FILE ...    the same, where the first name begins with -\n\
           framewitness --list FILE    lists the samples of a file (see below)\n\
@@ -33,8 +34,9 @@ fn lines() -> bool {
 }
 
 // The list, the exit status, document 01's limits and this program's own, and what clean means: README.md has the same.
-fn bounds() -> bool {
+fn bounds(rt: &impl Print) -> bool {
     say::text(
+        rt,
         b"A list has a line for each sample, by track in the order of the moov box, tabs\n\
           between: the track and the number of the sample, the bytes before it in the\n\
           file and its own, when it is decoded and how long it lasts in the units of time\n\
@@ -65,48 +67,48 @@ fn bounds() -> bool {
     )
 }
 
-fn finding(number: u32) -> bool {
-    say::field(b"    F", number as u64)
-        & say::text(b"  ")
-        & meanings::finding(number)
-        & say::text(b"\n")
+fn finding(rt: &impl Print, number: u32) -> bool {
+    say::field(rt, b"    F", number as u64)
+        & say::text(rt, b"  ")
+        & meanings::finding(rt, number)
+        & say::text(rt, b"\n")
 }
 
-fn findings() -> bool {
-    say::text(b"Findings:\n")
-        & finding(1)
-        & finding(2)
-        & finding(3)
-        & finding(4)
-        & finding(5)
-        & finding(6)
-        & finding(7)
-        & finding(8)
-        & say::text(b"\n")
+fn findings(rt: &impl Print) -> bool {
+    say::text(rt, b"Findings:\n")
+        & finding(rt, 1)
+        & finding(rt, 2)
+        & finding(rt, 3)
+        & finding(rt, 4)
+        & finding(rt, 5)
+        & finding(rt, 6)
+        & finding(rt, 7)
+        & finding(rt, 8)
+        & say::text(rt, b"\n")
 }
 
-fn refusal(number: u32) -> bool {
-    say::field(b"    ", number as u64)
-        & say::text(b"  ")
-        & meanings::refusal(number)
-        & say::text(b"\n")
+fn refusal(rt: &impl Print, number: u32) -> bool {
+    say::field(rt, b"    ", number as u64)
+        & say::text(rt, b"  ")
+        & meanings::refusal(rt, number)
+        & say::text(rt, b"\n")
 }
 
-fn refusals() -> bool {
-    say::text(b"Refusals:\n")
-        & refusal(1)
-        & refusal(2)
-        & refusal(3)
-        & refusal(4)
-        & refusal(5)
-        & refusal(6)
-        & refusal(7)
-        & refusal(8)
-        & refusal(9)
-        & refusal(10)
-        & say::text(b"\n")
+fn refusals(rt: &impl Print) -> bool {
+    say::text(rt, b"Refusals:\n")
+        & refusal(rt, 1)
+        & refusal(rt, 2)
+        & refusal(rt, 3)
+        & refusal(rt, 4)
+        & refusal(rt, 5)
+        & refusal(rt, 6)
+        & refusal(rt, 7)
+        & refusal(rt, 8)
+        & refusal(rt, 9)
+        & refusal(rt, 10)
+        & say::text(rt, b"\n")
 }
 
-pub(crate) fn print() -> bool {
-    lines() & findings() & refusals() & bounds()
+pub(crate) fn print(rt: &impl Print) -> bool {
+    lines(rt) & findings(rt) & refusals(rt) & bounds(rt)
 }

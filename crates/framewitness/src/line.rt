@@ -4,51 +4,51 @@ use crate::{meanings, say};
 use numbers::Refusal;
 use verdicts::Finding;
 
-pub(crate) fn name(s: &[u8]) -> bool {
-    say::text(s) & say::text(b": ")
+pub(crate) fn name(rt: &impl Print, s: &[u8]) -> bool {
+    say::text(rt, s) & say::text(rt, b": ")
 }
 
-pub(crate) fn clean(tracks: u32, samples: u64, media: u64) -> bool {
-    say::field(b"clean tracks=", tracks as u64)
-        & say::field(b" samples=", samples)
-        & say::field(b" media=", media)
-        & say::text(b"\n")
+pub(crate) fn clean(rt: &impl Print, tracks: u32, samples: u64, media: u64) -> bool {
+    say::field(rt, b"clean tracks=", tracks as u64)
+        & say::field(rt, b" samples=", samples)
+        & say::field(rt, b" media=", media)
+        & say::text(rt, b"\n")
 }
 
-pub(crate) fn finding(f: Finding) -> bool {
-    say::field(b"F", f.number as u64)
-        & say::field(b" track=", f.track as u64)
-        & say::field(b" sample=", f.sample as u64)
-        & say::field(b" position=", f.position)
-        & say::text(b" gap=")
-        & say::signed(f.gap)
-        & say::text(b" (")
-        & meanings::finding(f.number)
-        & say::text(b")\n")
+pub(crate) fn finding(rt: &impl Print, f: Finding) -> bool {
+    say::field(rt, b"F", f.number as u64)
+        & say::field(rt, b" track=", f.track as u64)
+        & say::field(rt, b" sample=", f.sample as u64)
+        & say::field(rt, b" position=", f.position)
+        & say::text(rt, b" gap=")
+        & say::signed(rt, f.gap)
+        & say::text(rt, b" (")
+        & meanings::finding(rt, f.number)
+        & say::text(rt, b")\n")
 }
 
 // What is missing has a name, what is wrong a position.
-fn detail(q: Refusal) -> bool {
+fn detail(rt: &impl Print, q: Refusal) -> bool {
     if q.number == 5 {
-        return say::letters((q.detail % 0x1_0000_0000) as u32);
+        return say::letters(rt, (q.detail % 0x1_0000_0000) as u32);
     }
-    say::number(q.detail as u64)
+    say::number(rt, q.detail as u64)
 }
 
-pub(crate) fn refusal(q: Refusal) -> bool {
-    say::field(b"refused ", q.number as u64)
-        & say::text(b" detail=")
-        & detail(q)
-        & say::text(b" (")
-        & meanings::refusal(q.number)
-        & say::text(b")\n")
+pub(crate) fn refusal(rt: &impl Print, q: Refusal) -> bool {
+    say::field(rt, b"refused ", q.number as u64)
+        & say::text(rt, b" detail=")
+        & detail(rt, q)
+        & say::text(rt, b" (")
+        & meanings::refusal(rt, q.number)
+        & say::text(rt, b")\n")
 }
 
-pub(crate) fn unread(why: Unread) -> bool {
-    say::text(b"not read (") & meanings::unread(why) & say::text(b")\n")
+pub(crate) fn unread(rt: &impl Print, why: Unread) -> bool {
+    say::text(rt, b"not read (") & meanings::unread(rt, why) & say::text(rt, b")\n")
 }
 
 // Of a name that no path can have, as much as was read.
-pub(crate) fn too_long(start: &[u8]) -> bool {
-    say::text(start) & say::text(b"...: not read (its name is too long)\n")
+pub(crate) fn too_long(rt: &impl Print, start: &[u8]) -> bool {
+    say::text(rt, start) & say::text(rt, b"...: not read (its name is too long)\n")
 }

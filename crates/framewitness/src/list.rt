@@ -9,26 +9,25 @@ use stbl::Found;
 use tables::Track;
 use tree::Scanned;
 
-fn sample(track: u32, s: Sample) -> bool {
+fn sample(rt: &impl Print, track: u32, s: Sample) -> bool {
     let sync = if s.sync { 1 } else { 0 };
-    say::number(track as u64)
-        & say::field(b"\t", s.number as u64)
-        & say::field(b"\t", s.offset)
-        & say::field(b"\t", s.size as u64)
-        & say::field(b"\t", s.time)
-        & say::field(b"\t", s.duration as u64)
-        & say::text(b"\t")
-        & say::signed(s.composition)
-        & say::field(b"\t", sync)
-        & say::text(b"\n")
+    say::number(rt, track as u64)
+        & say::field(rt, b"\t", s.number as u64)
+        & say::field(rt, b"\t", s.offset)
+        & say::field(rt, b"\t", s.size as u64)
+        & say::field(rt, b"\t", s.time)
+        & say::field(rt, b"\t", s.duration as u64)
+        & say::text(rt, b"\t")
+        & say::signed(rt, s.composition)
+        & say::field(rt, b"\t", sync)
+        & say::text(rt, b"\n")
 }
 
 // The samples of a track's tables.
-fn of_tables(file: &[u8], number: u32, track: Track) -> bool {
+fn of_tables(rt: &impl Print, file: &[u8], number: u32, track: Track) -> bool {
     let mut whole = true;
     let mut lane = lanes::start();
-    let mut i = 0;
-    while i < SAMPLES {
+    for _ in 0..SAMPLES {
         match lanes::next(file, track, lane) {
             lanes::Taken::End => {
                 return whole;
@@ -40,21 +39,19 @@ fn of_tables(file: &[u8], number: u32, track: Track) -> bool {
                 sample: taken,
                 lane: after,
             } => {
-                whole = whole & sample(number, taken);
+                whole = whole & sample(rt, number, taken);
                 lane = after;
             }
         }
-        i += 1;
     }
     whole
 }
 
 // The samples of a track's runs.
-fn of_runs(file: &[u8], number: u32, runs: &[u64], rows: usize) -> bool {
+fn of_runs(rt: &impl Print, file: &[u8], number: u32, runs: &[u64], rows: usize) -> bool {
     let mut whole = true;
     let mut lane = fragments::start();
-    let mut i = 0;
-    while i < SAMPLES {
+    for _ in 0..SAMPLES {
         match fragments::next(file, runs, rows, number, lane) {
             fragments::Taken::End => {
                 return whole;
@@ -66,17 +63,17 @@ fn of_runs(file: &[u8], number: u32, runs: &[u64], rows: usize) -> bool {
                 sample: taken,
                 lane: after,
             } => {
-                whole = whole & sample(number, taken);
+                whole = whole & sample(rt, number, taken);
                 lane = after;
             }
         }
-        i += 1;
     }
     whole
 }
 
 // A file with fragments has no samples in its tables.
 fn of_track(
+    rt: &impl Print,
     file: &[u8],
     number: u32,
     found: Found,
@@ -85,15 +82,16 @@ fn of_track(
     fragmented: bool,
 ) -> bool {
     if fragmented {
-        return of_runs(file, number, runs, rows);
+        return of_runs(rt, file, number, runs, rows);
     }
     match found {
         Found::Refused(_) => false,
-        Found::Is(track) => of_tables(file, number, track),
+        Found::Is(track) => of_tables(rt, file, number, track),
     }
 }
 
 fn of_tracks(
+    rt: &impl Print,
     file: &[u8],
     n: usize,
     starts: &[usize; 4096],
@@ -107,21 +105,20 @@ fn of_tracks(
 ) -> bool {
     let mut whole = true;
     let mut trak = traks::next(0, n, starts, sizes, kinds, parents, placed);
-    let mut i = 0;
-    while i < TRACKS {
+    for _ in 0..TRACKS {
         if trak == 0 {
             return whole;
         }
         let number = traks::number(file, trak, n, starts, sizes, kinds, parents, placed);
         let found = traks::tables(file, trak, n, starts, sizes, kinds, parents, placed);
-        whole = whole & of_track(file, number, found, runs, rows, fragmented);
+        whole = whole & of_track(rt, file, number, found, runs, rows, fragmented);
         trak = traks::next(trak, n, starts, sizes, kinds, parents, placed);
-        i += 1;
     }
     whole
 }
 
 fn of_boxes(
+    rt: &impl Print,
     file: &[u8],
     n: usize,
     starts: &[usize; 4096],
@@ -140,6 +137,7 @@ fn of_boxes(
             runs: rows,
             moofs: many,
         } => of_tracks(
+            rt,
             file,
             n,
             starts,
@@ -154,14 +152,17 @@ fn of_boxes(
     }
 }
 
-pub(crate) fn print(file: &[u8]) -> bool {
+pub(crate) fn print(rt: &impl Print, file: &[u8]) -> bool {
     let mut starts = [0usize; 4096];
     let mut sizes = [0usize; 4096];
     let mut kinds = [0usize; 4096];
     let mut parents = [0usize; 4096];
     let mut depths = [0usize; 4096];
     let mut placed = [0usize; 4096];
-    let head = say::text(b"track\tnumber\toffset\tsize\ttime\tduration\tcomposition\tsync\n");
+    let head = say::text(
+        rt,
+        b"track\tnumber\toffset\tsize\ttime\tduration\tcomposition\tsync\n",
+    );
     match tree::scan(
         file,
         &mut starts,
@@ -172,6 +173,7 @@ pub(crate) fn print(file: &[u8]) -> bool {
         &mut placed,
     ) {
         Scanned::Fault(_, _) => false,
-        Scanned::Whole(n) => head & of_boxes(file, n, &starts, &sizes, &kinds, &parents, &placed),
+        Scanned::Whole(n) => head
+            & of_boxes(rt, file, n, &starts, &sizes, &kinds, &parents, &placed),
     }
 }

@@ -12,8 +12,16 @@ mod meanings;
 mod say;
 mod source;
 
+ghost use Rattle.std.specs.Prelude.{◌≤◌, length};
+
 use call::{Call, Misuse};
-use source::{Source, Unread};
+use source::{MOST, Source, Unread};
+use std::alloc::AllocError;
+use std::env::{Env, FillError};
+use std::fs;
+use std::fs::OpenOptions;
+use std::io::{Read, Seek, Write};
+use std::rt::Files;
 use verdicts::Audited;
 
 // What is told of a file: its verdict, or its samples.
@@ -23,7 +31,8 @@ enum Task {
     List,
 }
 
-const STATUS_FILENO: i32 = 3;
+// Descriptor 3, where it is open.
+const STATUS: &str = "/dev/fd/3";
 
 // What a call comes to. The larger one wins.
 const CLEAN: u8 = 0;
@@ -37,135 +46,196 @@ fn worse(a: u8, b: u8) -> u8 {
 }
 
 // A line that is not written whole is as bad as a file that is not read.
-fn written(whole: bool, status: u8) -> u8 {
+fn written(rt: &impl Eprint, whole: bool, status: u8) -> u8 {
     if whole {
         return status;
     }
-    say::error(b"framewitness: a line could not be written\n");
+    say::error(rt, "framewitness: a line could not be written\n");
     NO_VERDICT
 }
 
-fn not_read(name: &[u8], why: Unread) -> u8 {
-    written(line::name(name) & line::unread(why), NO_VERDICT)
+fn not_read(rt: &(impl Print + Eprint), name: &[u8], why: Unread) -> u8 {
+    written(rt, line::name(rt, name) & line::unread(rt, why), NO_VERDICT)
 }
 
-fn tell_verdict(name: &[u8], audited: Audited) -> u8 {
-    let named = line::name(name);
+fn tell_verdict(rt: &(impl Print + Eprint), name: &[u8], audited: Audited) -> u8 {
+    let named = line::name(rt, name);
     match audited {
         Audited::Clean {
             tracks,
             samples,
             media,
-        } => written(named & line::clean(tracks, samples, media), CLEAN),
-        Audited::Found(finding) => written(named & line::finding(finding), NOT_CLEAN),
-        Audited::Refused(refusal) => written(named & line::refusal(refusal), NOT_CLEAN),
+        } => written(rt, named & line::clean(rt, tracks, samples, media), CLEAN),
+        Audited::Found(finding) => written(rt, named & line::finding(rt, finding), NOT_CLEAN),
+        Audited::Refused(refusal) => written(rt, named & line::refusal(rt, refusal), NOT_CLEAN),
     }
 }
 
 // The samples, and the status of the verdict; the verdict itself where it is why there are none.
-fn tell_samples(name: &[u8], file: &[u8], audited: Audited) -> u8 {
+fn tell_samples(rt: &(impl Print + Eprint), name: &[u8], file: &[u8], audited: Audited) -> u8 {
     match audited {
         Audited::Clean {
             tracks: _,
             samples: _,
             media: _,
-        } => written(list::print(file), CLEAN),
-        Audited::Found(_) => written(list::print(file), NOT_CLEAN),
-        Audited::Refused(refusal) => tell_verdict(name, Audited::Refused(refusal)),
+        } => written(rt, list::print(rt, file), CLEAN),
+        Audited::Found(_) => written(rt, list::print(rt, file), NOT_CLEAN),
+        Audited::Refused(refusal) => tell_verdict(rt, name, Audited::Refused(refusal)),
     }
+}
+
+// How many bytes were read, until the room is full, the file ends or a read fails.
+fn read_full(file: &mut impl Read, room: &mut [u8]) -> usize
+    ensures { result ≤ length room.new }
+{
+    let mut done = 0;
+    for _ in 0..u64::MAX {
+        if done >= room.len() {
+            break;
+        }
+        match file.read(&mut room[done..]) {
+            Ok(0) => break,
+            Ok(n) => done += n,
+            Err(_) => break,
+        }
+    }
+    done.min(room.len())
 }
 
 // Of the room only what was read of this file is handed on. A file may be cut, or a read fail, after its size was asked.
-fn answer_sized(task: Task, name: &[u8], fd: i32, size: usize, room: &mut [u8]) -> u8 {
-    let got = io::read_full(fd, room);
+fn answer_sized(
+    rt: &(impl Print + Eprint),
+    task: Task,
+    name: &[u8],
+    file: &mut impl Read,
+    size: usize,
+    room: &mut [u8],
+) -> u8 {
+    let got = read_full(file, room);
     if got != size {
-        return not_read(name, Unread::NotWhole);
+        return not_read(rt, name, Unread::NotWhole);
     }
     let audited = audit::audit(&room[..got]);
     match task {
-        Task::Audit => tell_verdict(name, audited),
-        Task::List => tell_samples(name, &room[..got], audited),
+        Task::Audit => tell_verdict(rt, name, audited),
+        Task::List => tell_samples(rt, name, &room[..got], audited),
     }
 }
 
-fn answer_source(task: Task, name: &[u8], fd: i32, room: &mut [u8]) -> u8 {
-    match source::of(fd) {
-        Source::Sized(size) => answer_sized(task, name, fd, size, room),
-        Source::Not(why) => not_read(name, why),
+fn answer_source<F: Read + Seek>(
+    rt: &(impl Print + Eprint),
+    task: Task,
+    name: &[u8],
+    file: &mut F,
+    room: &mut [u8],
+) -> u8 {
+    match source::of(file) {
+        Source::Sized(size) => answer_sized(rt, task, name, file, size, room),
+        Source::Not(why) => not_read(rt, name, why),
     }
 }
 
-fn answer_named(task: Task, name: &[u8], room: &mut [u8]) -> u8 {
-    let fd = os::open_read(name);
-    if fd < 0 {
-        return not_read(name, Unread::Unopened);
+// A name that is no UTF-8 can not be opened.
+fn answer_named<R: Files + Print + Eprint>(rt: &R, task: Task, name: &[u8], room: &mut [u8]) -> u8 {
+    let Ok(path) = str::from_utf8(name) else {
+        return not_read(rt, name, Unread::Unopened);
+    };
+    match fs::open(rt, path) {
+        Ok(mut file) => answer_source(rt, task, name, &mut file, room),
+        Err(_) => not_read(rt, name, Unread::Unopened),
     }
-    let status = answer_source(task, name, fd, room);
-    libc::close(fd);
-    status
 }
 
-fn answer_argument(task: Task, i: usize, room: &mut [u8]) -> u8 {
-    let mut name = io::buffer();
-    let length = os::arg(i, &mut name);
-    if os::errno() != 0 {
-        return written(line::too_long(&name), NO_VERDICT);
+fn answer_argument<R: Files + Env + Print + Eprint>(
+    rt: &R,
+    task: Task,
+    i: usize,
+    room: &mut [u8],
+) -> u8 {
+    let mut name = [0u8; 4096];
+    match rt.arg(i, &mut name) {
+        Ok(length) => answer_named(rt, task, &name[..length], room),
+        Err(_) => written(rt, line::too_long(rt, &name), NO_VERDICT),
     }
-    answer_named(task, &name[..length], room)
 }
 
-fn audit_files(first: usize, n: usize, room: &mut [u8]) -> u8 {
+fn audit_files<R: Files + Env + Print + Eprint>(
+    rt: &R,
+    first: usize,
+    n: usize,
+    room: &mut [u8],
+) -> u8 {
     let mut status = CLEAN;
-    let mut i = first;
-    while i < n {
-        status = worse(status, answer_argument(Task::Audit, i, room));
-        i += 1;
+    for i in first..n {
+        status = worse(status, answer_argument(rt, Task::Audit, i, room));
     }
     status
+}
+
+fn is_there(rt: &impl Env, i: usize) -> bool {
+    match rt.arg(i, &mut [0u8; 0]) {
+        Err(FillError::NotPresent) => false,
+        _ => true,
+    }
+}
+
+// How many arguments there are, the program's own name among them.
+fn arg_count(rt: &impl Env) -> usize {
+    for i in 0..usize::MAX {
+        if !is_there(rt, i) {
+            return i;
+        }
+    }
+    usize::MAX
 }
 
 // The arguments from this one on.
-fn audit_from(first: usize, room: &mut [u8]) -> u8 {
-    let n = os::arg_count();
+fn audit_from<R: Files + Env + Print + Eprint>(rt: &R, first: usize, room: &mut [u8]) -> u8 {
+    let n = arg_count(rt);
     if n <= first {
-        call::wrong(Misuse::NoFile);
+        call::wrong(rt, Misuse::NoFile);
         return NO_VERDICT;
     }
-    audit_files(first, n, room)
+    audit_files(rt, first, n, room)
 }
 
 // The one argument behind --list.
-fn list_one(room: &mut [u8]) -> u8 {
-    if os::arg_count() != 3 {
-        call::wrong(Misuse::NotOneFile);
+fn list_one<R: Files + Env + Print + Eprint>(rt: &R, room: &mut [u8]) -> u8 {
+    if arg_count(rt) != 3 {
+        call::wrong(rt, Misuse::NotOneFile);
         return NO_VERDICT;
     }
-    answer_argument(Task::List, 2, room)
+    answer_argument(rt, Task::List, 2, room)
 }
 
-fn answer(room: &mut [u8]) -> u8 {
-    match call::first() {
-        Call::Help => written(help::print(), CLEAN),
-        Call::List => list_one(room),
-        Call::Files(first) => audit_from(first, room),
+fn answer<R: Files + Env + Print + Eprint>(rt: &R, room: &mut [u8]) -> u8 {
+    match call::first(rt) {
+        Call::Help => written(rt, help::print(rt), CLEAN),
+        Call::List => list_one(rt, room),
+        Call::Files(first) => audit_from(rt, first, room),
         Call::Unknown => {
-            call::wrong(Misuse::UnknownOption);
+            call::wrong(rt, Misuse::UnknownOption);
             NO_VERDICT
         }
     }
 }
 
-fn tell(status: u8) -> bool {
-    match status {
-        0 => io::write_all(STATUS_FILENO, b"0"),
-        1 => io::write_all(STATUS_FILENO, b"1"),
-        _ => io::write_all(STATUS_FILENO, b"2"),
-    }
+fn tell(rt: &impl Files, status: u8) -> bool {
+    let Ok(mut file) = OpenOptions::new().append(true).open(rt, STATUS) else {
+        return false;
+    };
+    let digit: &[u8] = match status {
+        0 => b"0",
+        1 => b"1",
+        _ => b"2",
+    };
+    file.write_all(digit).is_ok()
 }
 
-// The one room for the bytes of files, each in its turn: it takes half of the stack, and is cleared once.
-fn main() {
-    let mut space = [0u8; 4194304];
-    let room: &mut [u8] = &mut space;
-    tell(answer(room));
+// The one room for the bytes of files, each in its turn, which is cleared once.
+fn main(rt: HostRuntime) -> Result<(), AllocError> {
+    let mut room = vec![in rt.alloc(); 0u8; MOST]?;
+    let status = answer(&rt, room.as_mut_slice());
+    tell(&rt, status);
+    Ok(())
 }

@@ -1,28 +1,29 @@
 // The words of a line. Each function tells whether all of them were written.
-use libc::{STDERR_FILENO, STDOUT_FILENO};
 
-pub(crate) fn text(s: &[u8]) -> bool {
-    io::write_all(STDOUT_FILENO, s)
+// To standard output.
+pub(crate) fn text(rt: &impl Print, s: &[u8]) -> bool {
+    rt.write_all(s).is_ok()
 }
 
-pub(crate) fn error(s: &[u8]) -> bool {
-    io::write_all(STDERR_FILENO, s)
+// To standard error.
+pub(crate) fn error(rt: &impl Eprint, s: &str) -> bool {
+    rt.eprint(s).is_ok()
 }
 
-pub(crate) fn number(n: u64) -> bool {
-    io::print_decimal(STDOUT_FILENO, n)
+pub(crate) fn number(rt: &impl Print, n: u64) -> bool {
+    rt.print(n).is_ok()
 }
 
 // A number behind the word for it.
-pub(crate) fn field(word: &[u8], n: u64) -> bool {
-    text(word) & number(n)
+pub(crate) fn field(rt: &impl Print, word: &[u8], n: u64) -> bool {
+    text(rt, word) & number(rt, n)
 }
 
-pub(crate) fn signed(n: i64) -> bool {
+pub(crate) fn signed(rt: &impl Print, n: i64) -> bool {
     if n < 0 {
-        text(b"-") & number(absolute::of(n))
+        text(rt, b"-") & number(rt, absolute::of(n))
     } else {
-        number(absolute::of(n))
+        number(rt, absolute::of(n))
     }
 }
 
@@ -32,11 +33,11 @@ fn letter(b: u8) -> u8 {
 }
 
 // The four letters of a box's type.
-pub(crate) fn letters(kind: u32) -> bool {
+pub(crate) fn letters(rt: &impl Print, kind: u32) -> bool {
     let mut four = types::letters::of_number(kind);
     four[0] = letter(four[0]);
     four[1] = letter(four[1]);
     four[2] = letter(four[2]);
     four[3] = letter(four[3]);
-    text(&four)
+    text(rt, &four)
 }

@@ -1,7 +1,9 @@
 // An open file: how many bytes it has, or why it is not read.
+use std::io;
+use std::io::{ErrorKind, Read, Seek, SeekFrom};
 
 // The most bytes that are read of a file.
-const MOST: i64 = 4194304;
+pub(crate) const MOST: usize = 4194304;
 
 #[derive(Clone, Copy)]
 pub(crate) enum Unread {
@@ -19,44 +21,42 @@ pub(crate) enum Source {
 }
 
 // A pipe or a terminal has no positions. Its bytes are not touched.
-fn has_positions(fd: i32) -> bool {
-    libc::lseek(fd, 0, libc::SEEK_CUR) >= 0
+fn has_positions(file: &mut impl Seek) -> bool {
+    file.seek(SeekFrom::Current(0)).is_ok()
 }
 
 // A directory can be opened, and not read.
-fn can_be_read(fd: i32) -> bool {
-    let mut one = [0u8; 1];
-    libc::read(fd, &mut one) >= 0
+fn can_be_read(file: &mut impl Read) -> io::Result<usize> {
+    file.read(&mut [0u8; 1])
 }
 
-fn unreadable() -> Unread {
-    if os::errno() == libc::EISDIR {
+fn unreadable(error: io::Error) -> Unread {
+    if error.kind() == ErrorKind::IsADirectory {
         return Unread::Directory;
     }
     Unread::NotWhole
 }
 
 // The number of bytes, and the position back at the first of them.
-fn sized(fd: i32) -> Source {
-    let size = libc::lseek(fd, 0, libc::SEEK_END);
-    if size > MOST {
+fn sized(file: &mut impl Seek) -> Source {
+    let Ok(size) = file.seek(SeekFrom::End(0)) else {
+        return Source::Not(Unread::NotWhole);
+    };
+    if size > MOST as u64 {
         return Source::Not(Unread::TooLarge);
     }
-    if libc::lseek(fd, 0, libc::SEEK_SET) != 0 {
-        return Source::Not(Unread::NotWhole);
+    match file.seek(SeekFrom::Start(0)) {
+        Ok(0) => Source::Sized(size as usize),
+        _ => Source::Not(Unread::NotWhole),
     }
-    if size < 0 {
-        return Source::Not(Unread::NotWhole);
-    }
-    Source::Sized(absolute::of(size) as usize)
 }
 
-pub(crate) fn of(fd: i32) -> Source {
-    if !has_positions(fd) {
+pub(crate) fn of<F: Read + Seek>(file: &mut F) -> Source {
+    if !has_positions(file) {
         return Source::Not(Unread::NoFile);
     }
-    if !can_be_read(fd) {
-        return Source::Not(unreadable());
+    if let Err(error) = can_be_read(file) {
+        return Source::Not(unreadable(error));
     }
-    sized(fd)
+    sized(file)
 }
