@@ -12,11 +12,10 @@ mod meanings;
 mod say;
 mod source;
 
-ghost use Rattle.std.specs.Prelude.{◌≤◌, length};
+ghost use Rattle.std.specs.Prelude.{◌≡◌, ◌≤◌, length};
 
 use call::{Call, Misuse};
 use source::{MOST, Source, Unread};
-use std::alloc::AllocError;
 use std::env::{Env, FillError};
 use std::fs;
 use std::fs::OpenOptions;
@@ -232,10 +231,16 @@ fn tell(rt: &impl Files, status: u8) -> bool {
     file.write_all(digit).is_ok()
 }
 
-// The one room for the bytes of files, each in its turn, which is cleared once.
-fn main(rt: HostRuntime) -> Result<(), AllocError> {
-    let mut room = vec![in rt.alloc(); 0u8; MOST]?;
-    let status = answer(&rt, room.as_mut_slice());
+// The one room for the bytes of files, each in its turn: it takes half of the stack, and is cleared once.
+fn room() -> [u8; MOST]
+    ensures { MOST ≡ length result }
+{
+    [0u8; MOST]
+}
+
+fn main(rt: HostRuntime) {
+    let mut space = room();
+    let room: &mut [u8] = &mut space;
+    let status = answer(&rt, room);
     tell(&rt, status);
-    Ok(())
 }

@@ -2,11 +2,10 @@
 // Does work that can be counted, with the tables of one stbl box, which it reads from its standard input. Each argument
 // is one round: `list` lists all samples into a lent buffer, `look` looks each of them up, `sync` asks of each whether it
 // is sync. Last it writes a number that all answers go into, so that none of them can be left out.
-ghost use Rattle.std.specs.Prelude.{◌≤◌, length};
+ghost use Rattle.std.specs.Prelude.{◌≡◌, ◌≤◌, length};
 
 use lookup::Synced;
 use samples::Listed;
-use std::alloc::AllocError;
 use std::env::{Env, FillError};
 use std::io::Read;
 use tableboxes::Places;
@@ -153,9 +152,16 @@ fn read_full(from: &mut impl Read, room: &mut [u8]) -> usize
     done.min(room.len())
 }
 
-fn main(rt: HostRuntime) -> Result<(), AllocError> {
-    let mut buffer = vec![in rt.alloc(); 0u8; 2621440]?;
-    let got = read_full(&mut rt.stdin(), buffer.as_mut_slice());
-    measure(&rt, &buffer.as_slice()[..got]);
-    Ok(())
+// The room for what is read. Its length is said once, since a program that counts so many elements needs a law for it.
+fn room() -> [u8; 2621440]
+    ensures { 2621440 ≡ length result }
+{
+    [0u8; 2621440]
+}
+
+fn main(rt: HostRuntime) {
+    let mut space = room();
+    let buffer: &mut [u8] = &mut space;
+    let got = read_full(&mut rt.stdin(), buffer);
+    measure(&rt, &buffer[..got]);
 }
