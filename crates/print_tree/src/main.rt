@@ -4,7 +4,6 @@
 ghost use Rattle.std.specs.Prelude.{◌≤◌, length};
 
 use std::env::{Env, FillError};
-use std::fmt::Display;
 use std::fs;
 use std::io::Read;
 use tree::Scanned;
@@ -120,8 +119,16 @@ fn print_file(rt: &impl Print, file: &mut impl Read) {
     print_tree(rt, &buffer[..got]);
 }
 
+// The system's words for why a call failed, without the number that stands behind them.
+fn words(why: &str) -> &str {
+    match why.split_once(" (os error ") {
+        Some((words, _)) => words,
+        None => why,
+    }
+}
+
 // A line of standard error: what failed, and why.
-fn fail<D: Display + Drop>(rt: &HostRuntime, what: &[u8], why: D) {
+fn fail(rt: &HostRuntime, what: &[u8], why: &str) {
     let errors = rt.stderr();
     text(&errors, what);
     text(&errors, b": ");
@@ -148,7 +155,10 @@ fn print_named(rt: &HostRuntime, name: &[u8]) {
             text(rt, b"\n");
             print_file(rt, &mut file);
         }
-        Err(e) => fail(rt, name, e),
+        Err(e) => match format!(in rt.alloc(); "{e}") {
+            Ok(why) => fail(rt, name, words(why.as_str())),
+            Err(_) => fail(rt, name, "it can not be opened"),
+        },
     }
 }
 
