@@ -6,13 +6,16 @@
 // For each table there is a line, in the order in which the boxes stand in an stbl: its name and the bytes of the box as
 // digits, or `refused` with the number and the detail, or `absent` where the track has no such box; then the whole stbl,
 // with an stsd of no entry. An empty line ends the list. Words have a tab between them.
+ghost use Rattle.std.specs.Prelude.{◌≤◌, length};
+
 mod say;
 mod table;
 
-use libc::STDIN_FILENO;
 use numbers::{U32, U64};
 use samples::Sample;
 use signed::I32;
+use std::alloc::AllocError;
+use std::io::Read;
 
 // How many samples a list has at most, and how many bytes each.
 const MOST: u32 = 64;
@@ -73,39 +76,36 @@ fn put_row(rows: &[u8], i: u32, number: u32, time: u64, records: &mut [u64]) -> 
 
 fn put_rows(rows: &[u8], n: u32, records: &mut [u64]) {
     let mut time = 0;
-    let mut i = 0;
-    while i < n {
-        let number = i + 1;
-        time = put_row(rows, i, number, time, records);
-        i = number;
+    for i in 0..n {
+        time = put_row(rows, i, i + 1, time, records);
     }
 }
 
 // The tables of a list, with room for the longest entries, and for them in a box.
-fn print_tables(timescale: u32, n: u32, rows: &[u8]) {
+fn print_tables(rt: &impl Print, timescale: u32, n: u32, rows: &[u8]) {
     let mut records = [0u64; 448];
     let mut entries = [0u8; 1024];
     let mut out = [0u8; 1024];
     put_rows(rows, n, &mut records);
-    table::stts(&records, n, &mut entries, &mut out);
-    table::ctts(&records, n, &mut entries, &mut out);
-    table::stsc(&records, n, timescale, &mut entries, &mut out);
-    table::stsz(&records, n, &mut entries, &mut out);
-    table::offsets(&records, n, timescale, &mut entries, &mut out);
-    table::stss(&records, n, &mut entries, &mut out);
+    table::stts(rt, &records, n, &mut entries, &mut out);
+    table::ctts(rt, &records, n, &mut entries, &mut out);
+    table::stsc(rt, &records, n, timescale, &mut entries, &mut out);
+    table::stsz(rt, &records, n, &mut entries, &mut out);
+    table::offsets(rt, &records, n, timescale, &mut entries, &mut out);
+    table::stss(rt, &records, n, &mut entries, &mut out);
 }
 
 // The whole stbl, with room for all of them, and the line that ends the list.
-fn print_whole(timescale: u32, n: u32, rows: &[u8]) {
+fn print_whole(rt: &impl Print, timescale: u32, n: u32, rows: &[u8]) {
     let mut records = [0u64; 448];
     let mut out = [0u8; 4096];
     put_rows(rows, n, &mut records);
-    table::stbl(&records, n, timescale, &mut out);
-    say::text(b"\n");
+    table::stbl(rt, &records, n, timescale, &mut out);
+    say::text(rt, b"\n");
 }
 
 // The list at `at`, and where the next one begins; the end where this one is not whole.
-fn print_list(lists: &[u8], at: usize) -> usize {
+fn print_list(rt: &impl Print, lists: &[u8], at: usize) -> usize {
     if lists.len() < at {
         return lists.len();
     }
@@ -124,27 +124,40 @@ fn print_list(lists: &[u8], at: usize) -> usize {
         return lists.len();
     }
     let end = from + length;
-    print_tables(timescale, n, &lists[from..end]);
-    print_whole(timescale, n, &lists[from..end]);
+    print_tables(rt, timescale, n, &lists[from..end]);
+    print_whole(rt, timescale, n, &lists[from..end]);
     end
 }
 
 // There are no more lists than bytes.
-fn print_lists(lists: &[u8]) {
+fn print_lists(rt: &impl Print, lists: &[u8]) {
     let mut at = 0;
-    let mut i = 0;
-    while i < lists.len() {
+    for _ in 0..lists.len() {
         if lists.len() <= at {
             return;
         }
-        at = print_list(lists, at);
-        i += 1;
+        at = print_list(rt, lists, at);
     }
 }
 
+// Reads until the room is full, the input ends or a read fails, and tells how many bytes it put into the room.
+fn read_full(from: &mut impl Read, room: &mut [u8]) -> usize
+    ensures { result ≤ length room.new }
+{
+    let mut done = 0;
+    while done < room.len() {
+        match from.read(&mut room[done..]) {
+            Ok(0) | Err(_) => break,
+            Ok(n) => done += n,
+        }
+    }
+    done
+}
+
 // Up to 1 MiB: what lies behind that is not read.
-fn main() {
-    let mut buffer = [0u8; 1048576];
-    let got = io::read_full(STDIN_FILENO, &mut buffer);
-    print_lists(&buffer[..got]);
+fn main(rt: HostRuntime) -> Result<(), AllocError> {
+    let mut buffer = vec![in rt.alloc(); 0u8; 1048576]?;
+    let got = read_full(&mut rt.stdin(), buffer.as_mut_slice());
+    print_lists(&rt, &buffer.as_slice()[..got]);
+    Ok(())
 }

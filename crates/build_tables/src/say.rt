@@ -1,27 +1,24 @@
 // The words of a line, and parts of what is lent.
-use libc::STDOUT_FILENO;
 use numbers::Refusal;
 use put::Put;
 
-pub(crate) fn text(s: &[u8]) {
-    io::write_all(STDOUT_FILENO, s);
+pub(crate) fn text(rt: &impl Print, s: &[u8]) {
+    let _ = rt.write_all(s);
 }
 
-fn number(n: u64) {
-    text(b"\t");
-    io::print_decimal(STDOUT_FILENO, n);
+fn number(rt: &impl Print, n: u64) {
+    text(rt, b"\t");
+    let _ = rt.print(n);
 }
 
-fn digits_of(b: u8) {
-    io::print_hex(STDOUT_FILENO, b as u64, 2);
+fn digits_of(rt: &impl Print, b: u8) {
+    let _ = print!(rt; "{b:02x}");
 }
 
 // Two digits for each byte.
-fn digits(s: &[u8]) {
-    let mut i = 0;
-    while i < s.len() {
-        digits_of(s[i]);
-        i += 1;
+fn digits(rt: &impl Print, s: &[u8]) {
+    for b in s {
+        digits_of(rt, *b);
     }
 }
 
@@ -37,28 +34,28 @@ pub(crate) fn part(s: &[u8], at: usize, n: usize) -> &[u8] {
     &s[at..end]
 }
 
-pub(crate) fn absent(name: &[u8]) {
-    text(name);
-    text(b"\tabsent\n");
+pub(crate) fn absent(rt: &impl Print, name: &[u8]) {
+    text(rt, name);
+    text(rt, b"\tabsent\n");
 }
 
-pub(crate) fn refused(name: &[u8], q: Refusal) {
-    text(name);
-    text(b"\trefused");
-    number(q.number as u64);
-    number(q.detail as u64);
-    text(b"\n");
+pub(crate) fn refused(rt: &impl Print, name: &[u8], q: Refusal) {
+    text(rt, name);
+    text(rt, b"\trefused");
+    number(rt, q.number as u64);
+    number(rt, q.detail as u64);
+    text(rt, b"\n");
 }
 
 // The box that a writer put at the start of `out`.
-pub(crate) fn written(name: &[u8], put: Put, out: &[u8]) {
+pub(crate) fn written(rt: &impl Print, name: &[u8], put: Put, out: &[u8]) {
     match put {
-        Put::Refused(q) => refused(name, q),
+        Put::Refused(q) => refused(rt, name, q),
         Put::Done(n) => {
-            text(name);
-            text(b"\t");
-            digits(part(out, 0, n));
-            text(b"\n");
+            text(rt, name);
+            text(rt, b"\t");
+            digits(rt, part(out, 0, n));
+            text(rt, b"\n");
         }
     }
 }

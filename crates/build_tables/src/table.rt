@@ -19,9 +19,9 @@ fn count(length: usize, each: usize) -> u32 {
     (length / each % NARROW) as u32
 }
 
-pub(crate) fn stts(records: &[u64], n: u32, entries: &mut [u8], out: &mut [u8]) {
+pub(crate) fn stts(rt: &impl Print, records: &[u64], n: u32, entries: &mut [u8], out: &mut [u8]) {
     match builder::stts::entries(records, n as usize, entries) {
-        Put::Refused(q) => say::refused(b"stts", q),
+        Put::Refused(q) => say::refused(rt, b"stts", q),
         Put::Done(length) => {
             let stts = Stts {
                 version: 0,
@@ -29,18 +29,18 @@ pub(crate) fn stts(records: &[u64], n: u32, entries: &mut [u8], out: &mut [u8]) 
                 count: count(length, 8),
             };
             let put = stts::write(stts, say::part(entries, 0, length), out);
-            say::written(b"stts", put, out);
+            say::written(rt, b"stts", put, out);
         }
     }
 }
 
 // Absent where it has no entry (A57).
-pub(crate) fn ctts(records: &[u64], n: u32, entries: &mut [u8], out: &mut [u8]) {
+pub(crate) fn ctts(rt: &impl Print, records: &[u64], n: u32, entries: &mut [u8], out: &mut [u8]) {
     match builder::ctts::entries(records, n as usize, entries) {
-        Put::Refused(q) => say::refused(b"ctts", q),
+        Put::Refused(q) => say::refused(rt, b"ctts", q),
         Put::Done(length) => {
             if length == 0 {
-                say::absent(b"ctts");
+                say::absent(rt, b"ctts");
                 return;
             }
             let ctts = Ctts {
@@ -49,14 +49,21 @@ pub(crate) fn ctts(records: &[u64], n: u32, entries: &mut [u8], out: &mut [u8]) 
                 count: count(length, 8),
             };
             let put = ctts::write(ctts, say::part(entries, 0, length), out);
-            say::written(b"ctts", put, out);
+            say::written(rt, b"ctts", put, out);
         }
     }
 }
 
-pub(crate) fn stsc(records: &[u64], n: u32, timescale: u32, entries: &mut [u8], out: &mut [u8]) {
+pub(crate) fn stsc(
+    rt: &impl Print,
+    records: &[u64],
+    n: u32,
+    timescale: u32,
+    entries: &mut [u8],
+    out: &mut [u8],
+) {
     match chunking_stsc::entries(records, n as usize, timescale, entries) {
-        Put::Refused(q) => say::refused(b"stsc", q),
+        Put::Refused(q) => say::refused(rt, b"stsc", q),
         Put::Done(length) => {
             let stsc = Stsc {
                 version: 0,
@@ -64,14 +71,14 @@ pub(crate) fn stsc(records: &[u64], n: u32, timescale: u32, entries: &mut [u8], 
                 count: count(length, 12),
             };
             let put = stsc::write(stsc, say::part(entries, 0, length), out);
-            say::written(b"stsc", put, out);
+            say::written(rt, b"stsc", put, out);
         }
     }
 }
 
-pub(crate) fn stsz(records: &[u64], n: u32, entries: &mut [u8], out: &mut [u8]) {
+pub(crate) fn stsz(rt: &impl Print, records: &[u64], n: u32, entries: &mut [u8], out: &mut [u8]) {
     match builder_stsz::entries(records, n as usize, entries) {
-        Put::Refused(q) => say::refused(b"stsz", q),
+        Put::Refused(q) => say::refused(rt, b"stsz", q),
         Put::Done(length) => {
             let stsz = Stsz {
                 version: 0,
@@ -80,53 +87,60 @@ pub(crate) fn stsz(records: &[u64], n: u32, entries: &mut [u8], out: &mut [u8]) 
                 count: n,
             };
             let put = stsz::write(stsz, say::part(entries, 0, length), out);
-            say::written(b"stsz", put, out);
+            say::written(rt, b"stsz", put, out);
         }
     }
 }
 
-fn stco(entries: &[u8], out: &mut [u8]) {
+fn stco(rt: &impl Print, entries: &[u8], out: &mut [u8]) {
     let stco = Stco {
         version: 0,
         flags: 0,
         count: count(entries.len(), 4),
     };
     let put = stco::write(stco, entries, out);
-    say::written(b"stco", put, out);
+    say::written(rt, b"stco", put, out);
 }
 
-fn co64(entries: &[u8], out: &mut [u8]) {
+fn co64(rt: &impl Print, entries: &[u8], out: &mut [u8]) {
     let co64 = Co64 {
         version: 0,
         flags: 0,
         count: count(entries.len(), 8),
     };
     let put = co64::write(co64, entries, out);
-    say::written(b"co64", put, out);
+    say::written(rt, b"co64", put, out);
 }
 
 // A refusal is told of stco: it comes before the two are told apart.
-pub(crate) fn offsets(records: &[u64], n: u32, timescale: u32, entries: &mut [u8], out: &mut [u8]) {
+pub(crate) fn offsets(
+    rt: &impl Print,
+    records: &[u64],
+    n: u32,
+    timescale: u32,
+    entries: &mut [u8],
+    out: &mut [u8],
+) {
     match chunking_offsets::entries(records, n as usize, timescale, entries) {
-        Put::Refused(q) => say::refused(b"stco", q),
+        Put::Refused(q) => say::refused(rt, b"stco", q),
         Put::Done(length) => {
             if chunking_offsets::wide(records, n as usize, timescale) {
-                co64(say::part(entries, 0, length), out);
+                co64(rt, say::part(entries, 0, length), out);
             } else {
-                stco(say::part(entries, 0, length), out);
+                stco(rt, say::part(entries, 0, length), out);
             }
         }
     }
 }
 
 // Absent where there is no sample (A56).
-pub(crate) fn stss(records: &[u64], n: u32, entries: &mut [u8], out: &mut [u8]) {
+pub(crate) fn stss(rt: &impl Print, records: &[u64], n: u32, entries: &mut [u8], out: &mut [u8]) {
     if n == 0 {
-        say::absent(b"stss");
+        say::absent(rt, b"stss");
         return;
     }
     match builder_stss::entries(records, n as usize, entries) {
-        Put::Refused(q) => say::refused(b"stss", q),
+        Put::Refused(q) => say::refused(rt, b"stss", q),
         Put::Done(length) => {
             let stss = Stss {
                 version: 0,
@@ -134,7 +148,7 @@ pub(crate) fn stss(records: &[u64], n: u32, entries: &mut [u8], out: &mut [u8]) 
                 count: count(length, 4),
             };
             let put = stss::write(stss, say::part(entries, 0, length), out);
-            say::written(b"stss", put, out);
+            say::written(rt, b"stss", put, out);
         }
     }
 }
@@ -142,8 +156,8 @@ pub(crate) fn stss(records: &[u64], n: u32, entries: &mut [u8], out: &mut [u8]) 
 // An stsd of no entry.
 const STSD: [u8; 16] = [0, 0, 0, 16, 0x73, 0x74, 0x73, 0x64, 0, 0, 0, 0, 0, 0, 0, 0];
 
-pub(crate) fn stbl(records: &[u64], n: u32, timescale: u32, out: &mut [u8]) {
+pub(crate) fn stbl(rt: &impl Print, records: &[u64], n: u32, timescale: u32, out: &mut [u8]) {
     let stsd = STSD;
     let put = sampletable::write(records, n as usize, timescale, &stsd, out);
-    say::written(b"stbl", put, out);
+    say::written(rt, b"stbl", put, out);
 }

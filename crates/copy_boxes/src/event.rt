@@ -11,34 +11,37 @@ fn behind(end: usize) -> usize {
     end - 12
 }
 
-fn emsg(part: &[u8], out: &mut [u8]) {
+fn emsg(rt: &impl Print, part: &[u8], out: &mut [u8]) {
     match emsg::read(part) {
-        emsg::Found::Refused(q) => say::refused(q),
+        emsg::Found::Refused(q) => say::refused(rt, q),
         emsg::Found::Is(b, p) => {
-            say::numbers(&[
-                b.version as u64,
-                b.flags as u64,
-                b.timescale as u64,
-                b.presentation_time,
-            ]);
-            say::two(b.event_duration, b.id);
+            say::numbers(
+                rt,
+                &[
+                    b.version as u64,
+                    b.flags as u64,
+                    b.timescale as u64,
+                    b.presentation_time,
+                ],
+            );
+            say::two(rt, b.event_duration, b.id);
             let scheme = emsg_parts::scheme(part);
             let value = emsg_parts::value(part);
             let message = emsg_parts::message(part);
-            say::bytes(scheme);
-            say::bytes(value);
-            say::bytes(message);
-            say::canonical(part, emsg::KIND, say::whole(emsg::ROW), behind(p.end));
+            say::bytes(rt, scheme);
+            say::bytes(rt, value);
+            say::bytes(rt, message);
+            say::canonical(rt, part, emsg::KIND, say::whole(emsg::ROW), behind(p.end));
             let put = emsg_write::write(b, scheme, value, message, out);
-            say::written(put, part, out);
+            say::written(rt, put, part, out);
         }
     }
 }
 
 // Tells a box of this type, and answers whether it is one.
-pub(crate) fn copy(kind: u32, part: &[u8], out: &mut [u8]) -> bool {
+pub(crate) fn copy(rt: &impl Print, kind: u32, part: &[u8], out: &mut [u8]) -> bool {
     if kind == EMSG {
-        emsg(part, out);
+        emsg(rt, part, out);
         return true;
     }
     false

@@ -14,109 +14,109 @@ const MOOF: u32 = 0x6d6f6f66;
 
 const TRAF: u32 = 0x74726166;
 
-fn place(p: Place) {
+fn place(rt: &impl Print, p: Place) {
     match p {
-        Place::Absent => say::numbers(&[0]),
-        Place::At(n) => say::numbers(&[n as u64]),
+        Place::Absent => say::numbers(rt, &[0]),
+        Place::At(n) => say::numbers(rt, &[n as u64]),
     }
 }
 
-fn edts(part: &[u8], out: &mut [u8]) {
+fn edts(rt: &impl Print, part: &[u8], out: &mut [u8]) {
     match containers::edts::read(part) {
-        containers::edts::Found::Refused(q) => say::refused(q),
+        containers::edts::Found::Refused(q) => say::refused(rt, q),
         containers::edts::Found::Is(b) => {
             let elst = b.elst;
-            place(elst);
+            place(rt, elst);
             let content = wrap::content(part, EDTS);
-            say::canonical(part, EDTS, [Field::Nothing; 24], content.len());
+            say::canonical(rt, part, EDTS, [Field::Nothing; 24], content.len());
             let put = wrap::around(content, EDTS, out);
-            say::written(put, part, out);
+            say::written(rt, put, part, out);
         }
     }
 }
 
-fn dinf(part: &[u8], out: &mut [u8]) {
+fn dinf(rt: &impl Print, part: &[u8], out: &mut [u8]) {
     match containers::dinf::read(part) {
-        containers::dinf::Found::Refused(q) => say::refused(q),
+        containers::dinf::Found::Refused(q) => say::refused(rt, q),
         containers::dinf::Found::Is(b) => {
             let dref = b.dref;
-            place(dref);
+            place(rt, dref);
             let content = wrap::content(part, DINF);
-            say::canonical(part, DINF, [Field::Nothing; 24], content.len());
+            say::canonical(rt, part, DINF, [Field::Nothing; 24], content.len());
             let put = wrap::around(content, DINF, out);
-            say::written(put, part, out);
+            say::written(rt, put, part, out);
         }
     }
 }
 
-fn mvex(part: &[u8], out: &mut [u8]) {
+fn mvex(rt: &impl Print, part: &[u8], out: &mut [u8]) {
     match containers::mvex::read(part) {
-        containers::mvex::Found::Refused(q) => say::refused(q),
+        containers::mvex::Found::Refused(q) => say::refused(rt, q),
         containers::mvex::Found::Is(b) => {
             let trex = b.trex;
-            place(trex);
+            place(rt, trex);
             let content = wrap::content(part, MVEX);
-            say::canonical(part, MVEX, [Field::Nothing; 24], content.len());
+            say::canonical(rt, part, MVEX, [Field::Nothing; 24], content.len());
             let put = wrap::around(content, MVEX, out);
-            say::written(put, part, out);
+            say::written(rt, put, part, out);
         }
     }
 }
 
-fn moof(part: &[u8], out: &mut [u8]) {
+fn moof(rt: &impl Print, part: &[u8], out: &mut [u8]) {
     match moof::read(part) {
-        moof::Found::Refused(q) => say::refused(q),
+        moof::Found::Refused(q) => say::refused(rt, q),
         moof::Found::Is(b) => {
             let mfhd = b.mfhd;
-            place(mfhd);
+            place(rt, mfhd);
             let traf = b.traf;
-            place(traf);
+            place(rt, traf);
             let content = wrap::content(part, MOOF);
-            say::canonical(part, MOOF, [Field::Nothing; 24], content.len());
+            say::canonical(rt, part, MOOF, [Field::Nothing; 24], content.len());
             let put = wrap::around(content, MOOF, out);
-            say::written(put, part, out);
+            say::written(rt, put, part, out);
         }
     }
 }
 
-fn traf(part: &[u8], out: &mut [u8]) {
+fn traf(rt: &impl Print, part: &[u8], out: &mut [u8]) {
     match traf::read(part) {
-        traf::Found::Refused(q) => say::refused(q),
+        traf::Found::Refused(q) => say::refused(rt, q),
         traf::Found::Is(b) => {
             let tfhd = b.tfhd;
-            place(tfhd);
+            place(rt, tfhd);
             let tfdt = b.tfdt;
-            place(tfdt);
+            place(rt, tfdt);
             let trun = b.trun;
-            place(trun);
+            place(rt, trun);
             let content = wrap::content(part, TRAF);
-            say::canonical(part, TRAF, [Field::Nothing; 24], content.len());
+            say::canonical(rt, part, TRAF, [Field::Nothing; 24], content.len());
             let put = wrap::around(content, TRAF, out);
-            say::written(put, part, out);
+            say::written(rt, put, part, out);
         }
     }
 }
 
 // Tells a box of one of these types, and answers whether it is one.
-pub(crate) fn copy(kind: u32, part: &[u8], out: &mut [u8]) -> bool {
+pub(crate) fn copy(rt: &impl Print, kind: u32, part: &[u8], out: &mut [u8]) -> bool {
     if kind == EDTS {
-        edts(part, out);
+        edts(rt, part, out);
         return true;
     }
     if kind == DINF {
-        dinf(part, out);
+        dinf(rt, part, out);
         return true;
     }
     if kind == MVEX {
-        mvex(part, out);
+        mvex(rt, part, out);
         return true;
     }
     if kind == MOOF {
-        moof(part, out);
+        moof(rt, part, out);
         return true;
     }
     if kind == TRAF {
-        traf(part, out);
+        traf(rt, part, out);
         return true;
     }
     false

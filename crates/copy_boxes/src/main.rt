@@ -5,6 +5,8 @@
 // position; or the fields in their order, each entry of a table in brackets, bytes as an x and their digits, whether the
 // box is canonical (its own size and fields; its children are boxes of their own), and then `same` where the box that
 // is written is the one that was read, else `wrote` and its bytes, or `unwritten` with the number and the detail.
+ghost use Rattle.std.specs.Prelude.{◌≤◌, length};
+
 mod edit;
 mod event;
 mod hold;
@@ -14,120 +16,171 @@ mod say;
 mod table;
 mod tail;
 
-use libc::STDOUT_FILENO;
 use numbers::U32;
 use packs::Item;
+use std::alloc::AllocError;
+use std::env::{Env, FillError};
+use std::fs::File;
+use std::io::{ErrorKind, Read};
+use std::{fs, io};
 
 // A type is printed as its letters; a byte that is no printable ASCII as '?'.
 fn letter(b: u8) -> u8 {
     if (b < 0x20) | (0x7e < b) { b'?' } else { b }
 }
 
-fn print_kind(kind: u32) {
+fn print_kind(rt: &impl Print, kind: u32) {
     let mut letters = types::letters::of_number(kind);
     letters[0] = letter(letters[0]);
     letters[1] = letter(letters[1]);
     letters[2] = letter(letters[2]);
     letters[3] = letter(letters[3]);
-    say::text(&letters);
+    say::text(rt, &letters);
 }
 
 // Whether a reader was found.
-fn copy_known(kind: u32, part: &[u8], out: &mut [u8]) -> bool {
-    if plain::copy(kind, part, out) {
+fn copy_known(rt: &impl Print, kind: u32, part: &[u8], out: &mut [u8]) -> bool {
+    if plain::copy(rt, kind, part, out) {
         return true;
     }
-    if table::copy(kind, part, out) {
+    if table::copy(rt, kind, part, out) {
         return true;
     }
-    if edit::copy(kind, part, out) {
+    if edit::copy(rt, kind, part, out) {
         return true;
     }
-    if run::copy(kind, part, out) {
+    if run::copy(rt, kind, part, out) {
         return true;
     }
-    if event::copy(kind, part, out) {
+    if event::copy(rt, kind, part, out) {
         return true;
     }
-    if hold::copy(kind, part, out) {
+    if hold::copy(rt, kind, part, out) {
         return true;
     }
-    tail::copy(kind, part, out)
+    tail::copy(rt, kind, part, out)
 }
 
 // A part that ends before its type does has none.
-fn copy_box(part: &[u8], out: &mut [u8]) {
+fn copy_box(rt: &impl Print, part: &[u8], out: &mut [u8]) {
     match numbers::u32_at(part, 4) {
-        U32::Refused(q) => say::text(b"- unknown\n"),
+        U32::Refused(q) => say::text(rt, b"- unknown\n"),
         U32::Is(kind) => {
-            print_kind(kind);
-            if !copy_known(kind, part, out) {
-                say::text(b" unknown");
+            print_kind(rt, kind);
+            if !copy_known(rt, kind, part, out) {
+                say::text(rt, b" unknown");
             }
-            say::text(b"\n");
+            say::text(rt, b"\n");
         }
     }
 }
 
 // The entry at `at`, and where the next one begins; the pack's end where this one is not whole.
-fn copy_entry(pack: &[u8], at: usize, out: &mut [u8]) -> usize {
+fn copy_entry(rt: &impl Print, pack: &[u8], at: usize, out: &mut [u8]) -> usize {
     match packs::item_at(pack, at) {
         Item::End => pack.len(),
         Item::Cut => {
-            say::text(b"cut\n");
+            say::text(rt, b"cut\n");
             pack.len()
         }
         Item::Is(from, length) => {
-            copy_box(parts::part(pack, from, length), out);
+            copy_box(rt, parts::part(pack, from, length), out);
             from + length
         }
     }
 }
 
 // No pack has more entries than bytes.
-fn copy_pack(pack: &[u8], out: &mut [u8]) {
+fn copy_pack(rt: &impl Print, pack: &[u8], out: &mut [u8]) {
     let mut at = 0;
-    let mut i = 0;
-    while i < pack.len() {
+    for _ in 0..pack.len() {
         if pack.len() <= at {
             return;
         }
-        at = copy_entry(pack, at, out);
-        i += 1;
+        at = copy_entry(rt, pack, at, out);
     }
+}
+
+// How many arguments the program was started with, its own name among them.
+fn arg_count(rt: &impl Env) -> usize {
+    for i in 0..usize::MAX {
+        if let Err(FillError::NotPresent) = rt.arg(i, &mut [0u8; 0]) {
+            return i;
+        }
+    }
+    usize::MAX
+}
+
+// Opens the file of that name. A name that is no UTF-8 cannot be opened.
+fn open_read(rt: &HostRuntime, name: &[u8]) -> io::Result<File> {
+    match str::from_utf8(name) {
+        Ok(path) => fs::open(rt, path),
+        Err(_) => Err(io::Error::from(ErrorKind::InvalidFilename)),
+    }
+}
+
+// Reads until the room is full, the input ends or a read fails, and tells how many bytes it put into the room.
+fn read_full(from: &mut impl Read, room: &mut [u8]) -> usize
+    ensures { result ≤ length room.new }
+{
+    let mut done = 0;
+    while done < room.len() {
+        match from.read(&mut room[done..]) {
+            Ok(0) | Err(_) => break,
+            Ok(n) => done += n,
+        }
+    }
+    done
+}
+
+// The system's words for why a call failed, without the number that stands behind them.
+fn words(why: &str) -> &str {
+    match why.split_once(" (os error ") {
+        Some((words, _)) => words,
+        None => why,
+    }
+}
+
+// Writes a line to standard error: what failed, and why.
+fn fail(rt: &HostRuntime, what: &[u8], why: &str) {
+    let err = rt.stderr();
+    say::text(&err, what);
+    say::text(&err, b": ");
+    let _ = err.println(why);
 }
 
 // Packs of up to 1 MiB: what lies behind that is not read. A box that is written is never longer than its entry.
-fn copy_file(fd: i32) {
-    let mut buffer = [0u8; 1048576];
-    let mut out = [0u8; 1048576];
-    let got = io::read_full(fd, &mut buffer);
-    copy_pack(&buffer[..got], &mut out);
+fn copy_file(rt: &HostRuntime, file: &mut File) -> Result<(), AllocError> {
+    let mut buffer = vec![in rt.alloc(); 0u8; 1048576]?;
+    let mut out = vec![in rt.alloc(); 0u8; 1048576]?;
+    let got = read_full(file, buffer.as_mut_slice());
+    copy_pack(rt, &buffer.as_slice()[..got], out.as_mut_slice());
+    Ok(())
 }
 
-fn copy_argument(i: usize) {
-    let mut path = io::buffer();
-    let length = os::arg(i, &mut path);
-    if os::errno() != 0 {
-        os::fail(b"argument");
-        return;
+fn copy_argument(rt: &HostRuntime, i: usize) -> Result<(), AllocError> {
+    let mut path = [0u8; 4096];
+    let Ok(length) = rt.arg(i, &mut path) else {
+        fail(rt, b"argument", "File name too long");
+        return Ok(());
+    };
+    match open_read(rt, &path[..length]) {
+        Ok(mut file) => {
+            say::text(rt, &path[..length]);
+            say::text(rt, b"\n");
+            copy_file(rt, &mut file)
+        }
+        Err(e) => {
+            let why = format!(in rt.alloc(); "{e}")?;
+            fail(rt, &path[..length], words(why.as_str()));
+            Ok(())
+        }
     }
-    let fd = os::open_read(&path[..length]);
-    if fd < 0 {
-        os::fail(&path[..length]);
-        return;
-    }
-    io::write_all(STDOUT_FILENO, &path[..length]);
-    say::text(b"\n");
-    copy_file(fd);
-    libc::close(fd);
 }
 
-fn main() {
-    let n = os::arg_count();
-    let mut i = 1;
-    while i < n {
-        copy_argument(i);
-        i += 1;
+fn main(rt: HostRuntime) -> Result<(), AllocError> {
+    for i in 1..arg_count(&rt) {
+        copy_argument(&rt, i)?;
     }
+    Ok(())
 }

@@ -6,27 +6,25 @@ use trun::{DataOffset, Listed, Trun};
 
 const TRUN: u32 = 0x7472756e;
 
-fn trun_offset(b: Trun) {
+fn trun_offset(rt: &impl Print, b: Trun) {
     match trun::offset_of(b) {
-        DataOffset::Absent => say::signed(0),
-        DataOffset::Is(n) => say::signed(n),
+        DataOffset::Absent => say::signed(rt, 0),
+        DataOffset::Is(n) => say::signed(rt, n),
     }
 }
 
-fn trun_entry(b: Trun, entries: &[u8], i: u32) {
+fn trun_entry(rt: &impl Print, b: Trun, entries: &[u8], i: u32) {
     if let Listed::Is(x) = trun::entry(b, entries, i) {
-        say::open();
-        say::three(x.duration, x.size, x.flags);
-        say::signed(x.composition_offset);
-        say::close();
+        say::open(rt);
+        say::three(rt, x.duration, x.size, x.flags);
+        say::signed(rt, x.composition_offset);
+        say::close(rt);
     }
 }
 
-fn trun_entries(b: Trun, entries: &[u8], n: u32) {
-    let mut i = 0;
-    while i < n {
-        trun_entry(b, entries, i);
-        i += 1;
+fn trun_entries(rt: &impl Print, b: Trun, entries: &[u8], n: u32) {
+    for i in 0..n {
+        trun_entry(rt, b, entries, i);
     }
 }
 
@@ -50,26 +48,29 @@ fn bytes_of(flags: u32, n: u32) -> usize {
     durations + sizes + own + offsets
 }
 
-fn trun(part: &[u8], out: &mut [u8]) {
+fn trun(rt: &impl Print, part: &[u8], out: &mut [u8]) {
     match trun::read(part) {
-        trun::Found::Refused(q) => say::refused(q),
+        trun::Found::Refused(q) => say::refused(rt, q),
         trun::Found::Is(b, from) => {
-            say::numbers(&[b.version as u64, b.flags as u64, b.sample_count as u64]);
-            trun_offset(b);
-            say::one(b.first_sample_flags);
+            say::numbers(
+                rt,
+                &[b.version as u64, b.flags as u64, b.sample_count as u64],
+            );
+            trun_offset(rt, b);
+            say::one(rt, b.first_sample_flags);
             let entries = say::entries(part, from, bytes_of(b.flags, b.sample_count));
-            trun_entries(b, entries, listed(b.flags, b.sample_count));
-            say::canonical(part, trun::KIND, say::whole(trun::ROW), entries.len());
+            trun_entries(rt, b, entries, listed(b.flags, b.sample_count));
+            say::canonical(rt, part, trun::KIND, say::whole(trun::ROW), entries.len());
             let put = trun::write(b, entries, out);
-            say::written(put, part, out);
+            say::written(rt, put, part, out);
         }
     }
 }
 
 // Tells a box of this type, and answers whether it is one.
-pub(crate) fn copy(kind: u32, part: &[u8], out: &mut [u8]) -> bool {
+pub(crate) fn copy(rt: &impl Print, kind: u32, part: &[u8], out: &mut [u8]) -> bool {
     if kind == TRUN {
-        trun(part, out);
+        trun(rt, part, out);
         return true;
     }
     false

@@ -1,110 +1,103 @@
 // The words of a line: each begins with a space.
 use layout::Field;
-use libc::STDOUT_FILENO;
 use numbers::{Refusal, U32};
 use put::Put;
 
-pub(crate) fn text(s: &[u8]) {
-    io::write_all(STDOUT_FILENO, s);
+pub(crate) fn text(rt: &impl Print, s: &[u8]) {
+    let _ = rt.write_all(s);
 }
 
-fn number(n: u64) {
-    text(b" ");
-    io::print_decimal(STDOUT_FILENO, n);
+fn number(rt: &impl Print, n: u64) {
+    text(rt, b" ");
+    let _ = rt.print(n);
 }
 
-pub(crate) fn numbers(row: &[u64]) {
-    let mut i = 0;
-    while i < row.len() {
-        number(row[i]);
-        i += 1;
+pub(crate) fn numbers(rt: &impl Print, row: &[u64]) {
+    for n in row {
+        number(rt, *n);
     }
 }
 
-pub(crate) fn one(a: u32) {
-    number(a as u64);
+pub(crate) fn one(rt: &impl Print, a: u32) {
+    number(rt, a as u64);
 }
 
-pub(crate) fn two(a: u32, b: u32) {
-    numbers(&[a as u64, b as u64]);
+pub(crate) fn two(rt: &impl Print, a: u32, b: u32) {
+    numbers(rt, &[a as u64, b as u64]);
 }
 
-pub(crate) fn three(a: u32, b: u32, c: u32) {
-    numbers(&[a as u64, b as u64, c as u64]);
+pub(crate) fn three(rt: &impl Print, a: u32, b: u32, c: u32) {
+    numbers(rt, &[a as u64, b as u64, c as u64]);
 }
 
 // An entry of a table stands in brackets.
-pub(crate) fn open() {
-    text(b" [");
+pub(crate) fn open(rt: &impl Print) {
+    text(rt, b" [");
 }
 
-pub(crate) fn close() {
-    text(b" ]");
+pub(crate) fn close(rt: &impl Print) {
+    text(rt, b" ]");
 }
 
-pub(crate) fn signed(n: i64) {
+pub(crate) fn signed(rt: &impl Print, n: i64) {
     if n < 0 {
-        text(b" -");
-        io::print_decimal(STDOUT_FILENO, absolute::of(n));
+        text(rt, b" -");
+        let _ = rt.print(absolute::of(n));
     } else {
-        number(absolute::of(n));
+        number(rt, absolute::of(n));
     }
 }
 
-pub(crate) fn signed16(n: i16) {
-    signed(n as i64);
+pub(crate) fn signed16(rt: &impl Print, n: i16) {
+    signed(rt, n as i64);
 }
 
-pub(crate) fn signed32(n: i32) {
-    signed(n as i64);
+pub(crate) fn signed32(rt: &impl Print, n: i32) {
+    signed(rt, n as i64);
 }
 
-fn digits_of(b: u8) {
-    io::print_hex(STDOUT_FILENO, b as u64, 2);
+fn digits_of(rt: &impl Print, b: u8) {
+    let _ = print!(rt; "{b:02x}");
 }
 
 // Two digits for each byte.
-fn digits(s: &[u8]) {
-    let mut i = 0;
-    while i < s.len() {
-        digits_of(s[i]);
-        i += 1;
+fn digits(rt: &impl Print, s: &[u8]) {
+    for b in s {
+        digits_of(rt, *b);
     }
 }
 
 // Bytes of any kind: an x, so that none are a word too, and their digits.
-pub(crate) fn bytes(s: &[u8]) {
-    text(b" x");
-    digits(s);
+pub(crate) fn bytes(rt: &impl Print, s: &[u8]) {
+    text(rt, b" x");
+    digits(rt, s);
 }
 
-pub(crate) fn refused(q: Refusal) {
-    text(b" refused");
-    number(q.number as u64);
-    number(q.detail as u64);
+pub(crate) fn refused(rt: &impl Print, q: Refusal) {
+    text(rt, b" refused");
+    number(rt, q.number as u64);
+    number(rt, q.detail as u64);
 }
 
 fn begins_with(s: &[u8], t: &[u8]) -> bool {
     if s.len() < t.len() {
         return false;
     }
-    let mut i = 0;
-    while i < t.len() {
+    for i in 0..t.len() {
         if s[i] != t[i] {
             return false;
         }
-        i += 1;
     }
     true
 }
 
 // The written box holds its own size, so where the part begins with it, it is the whole box that was read.
-fn compared(part: &[u8], written: &[u8]) {
+fn compared(rt: &impl Print, part: &[u8], written: &[u8]) {
     if begins_with(part, written) {
-        text(b" same");
+        text(rt, b" same");
     } else {
-        text(b" wrote ");
-        digits(written);
+        text(rt, b" wrote ");
+        digits(rt, written);
     }
 }
 
@@ -147,23 +140,23 @@ pub(crate) fn whole(row: [Field; 8]) -> [Field; 24] {
 }
 
 // Whether a box that was read is as we write it, with so many bytes behind its fields.
-pub(crate) fn canonical(part: &[u8], kind: u32, row: [Field; 24], rest: usize) {
+pub(crate) fn canonical(rt: &impl Print, part: &[u8], kind: u32, row: [Field; 24], rest: usize) {
     if canonical::by(alone(part), kind, row, rest as u64) {
-        text(b" canonical");
+        text(rt, b" canonical");
     } else {
-        text(b" other");
+        text(rt, b" other");
     }
 }
 
 // What the writer made of a box that was read from `part`.
-pub(crate) fn written(put: Put, part: &[u8], out: &[u8]) {
+pub(crate) fn written(rt: &impl Print, put: Put, part: &[u8], out: &[u8]) {
     match put {
         Put::Refused(q) => {
-            text(b" unwritten");
-            number(q.number as u64);
-            number(q.detail as u64);
+            text(rt, b" unwritten");
+            number(rt, q.number as u64);
+            number(rt, q.detail as u64);
         }
-        Put::Done(n) => compared(part, entries(out, 0, n)),
+        Put::Done(n) => compared(rt, part, entries(out, 0, n)),
     }
 }
 

@@ -17,187 +17,178 @@ const CO64: u32 = 0x636f3634;
 
 const STSZ: u32 = 0x7374737a;
 
-fn stts_entry(entries: &[u8], i: u32) {
+fn stts_entry(rt: &impl Print, entries: &[u8], i: u32) {
     if let stts::Listed::Is(x) = stts::entry(entries, i) {
-        say::open();
-        say::numbers(&[x.sample_count as u64, x.sample_delta as u64]);
-        say::close();
+        say::open(rt);
+        say::numbers(rt, &[x.sample_count as u64, x.sample_delta as u64]);
+        say::close(rt);
     }
 }
 
-fn stts_entries(entries: &[u8], n: u32) {
-    let mut i = 0;
-    while i < n {
-        stts_entry(entries, i);
-        i += 1;
+fn stts_entries(rt: &impl Print, entries: &[u8], n: u32) {
+    for i in 0..n {
+        stts_entry(rt, entries, i);
     }
 }
 
-fn stts(part: &[u8], out: &mut [u8]) {
+fn stts(rt: &impl Print, part: &[u8], out: &mut [u8]) {
     match stts::read(part) {
-        stts::Found::Refused(q) => say::refused(q),
+        stts::Found::Refused(q) => say::refused(rt, q),
         stts::Found::Is(b, from) => {
-            say::numbers(&[b.version as u64, b.flags as u64, b.count as u64]);
+            say::numbers(rt, &[b.version as u64, b.flags as u64, b.count as u64]);
             let entries = say::entries(part, from, (b.count as usize) * 8);
-            stts_entries(entries, b.count);
-            say::canonical(part, stts::KIND, say::whole(stts::ROW), entries.len());
+            stts_entries(rt, entries, b.count);
+            say::canonical(rt, part, stts::KIND, say::whole(stts::ROW), entries.len());
             let put = stts::write(b, entries, out);
-            say::written(put, part, out);
+            say::written(rt, put, part, out);
         }
     }
 }
 
-fn ctts_entry(entries: &[u8], i: u32) {
+fn ctts_entry(rt: &impl Print, entries: &[u8], i: u32) {
     if let ctts::Listed::Is(x) = ctts::entry(entries, i) {
-        say::open();
-        say::numbers(&[x.sample_count as u64]);
-        say::signed32(x.sample_offset);
-        say::close();
+        say::open(rt);
+        say::numbers(rt, &[x.sample_count as u64]);
+        say::signed32(rt, x.sample_offset);
+        say::close(rt);
     }
 }
 
-fn ctts_entries(entries: &[u8], n: u32) {
-    let mut i = 0;
-    while i < n {
-        ctts_entry(entries, i);
-        i += 1;
+fn ctts_entries(rt: &impl Print, entries: &[u8], n: u32) {
+    for i in 0..n {
+        ctts_entry(rt, entries, i);
     }
 }
 
-fn ctts(part: &[u8], out: &mut [u8]) {
+fn ctts(rt: &impl Print, part: &[u8], out: &mut [u8]) {
     match ctts::read(part) {
-        ctts::Found::Refused(q) => say::refused(q),
+        ctts::Found::Refused(q) => say::refused(rt, q),
         ctts::Found::Is(b, from) => {
-            say::numbers(&[b.version as u64, b.flags as u64, b.count as u64]);
+            say::numbers(rt, &[b.version as u64, b.flags as u64, b.count as u64]);
             let entries = say::entries(part, from, (b.count as usize) * 8);
-            ctts_entries(entries, b.count);
-            say::canonical(part, ctts::KIND, say::whole(ctts::ROW), entries.len());
+            ctts_entries(rt, entries, b.count);
+            say::canonical(rt, part, ctts::KIND, say::whole(ctts::ROW), entries.len());
             let put = ctts::write(b, entries, out);
-            say::written(put, part, out);
+            say::written(rt, put, part, out);
         }
     }
 }
 
-fn stsc_entry(entries: &[u8], i: u32) {
+fn stsc_entry(rt: &impl Print, entries: &[u8], i: u32) {
     if let stsc::Listed::Is(x) = stsc::entry(entries, i) {
-        say::open();
-        say::numbers(&[
-            x.first_chunk as u64,
-            x.samples_per_chunk as u64,
-            x.sample_description_index as u64,
-        ]);
-        say::close();
+        say::open(rt);
+        say::numbers(
+            rt,
+            &[
+                x.first_chunk as u64,
+                x.samples_per_chunk as u64,
+                x.sample_description_index as u64,
+            ],
+        );
+        say::close(rt);
     }
 }
 
-fn stsc_entries(entries: &[u8], n: u32) {
-    let mut i = 0;
-    while i < n {
-        stsc_entry(entries, i);
-        i += 1;
+fn stsc_entries(rt: &impl Print, entries: &[u8], n: u32) {
+    for i in 0..n {
+        stsc_entry(rt, entries, i);
     }
 }
 
-fn stsc(part: &[u8], out: &mut [u8]) {
+fn stsc(rt: &impl Print, part: &[u8], out: &mut [u8]) {
     match stsc::read(part) {
-        stsc::Found::Refused(q) => say::refused(q),
+        stsc::Found::Refused(q) => say::refused(rt, q),
         stsc::Found::Is(b, from) => {
-            say::numbers(&[b.version as u64, b.flags as u64, b.count as u64]);
+            say::numbers(rt, &[b.version as u64, b.flags as u64, b.count as u64]);
             let entries = say::entries(part, from, (b.count as usize) * 12);
-            stsc_entries(entries, b.count);
-            say::canonical(part, stsc::KIND, say::whole(stsc::ROW), entries.len());
+            stsc_entries(rt, entries, b.count);
+            say::canonical(rt, part, stsc::KIND, say::whole(stsc::ROW), entries.len());
             let put = stsc::write(b, entries, out);
-            say::written(put, part, out);
+            say::written(rt, put, part, out);
         }
     }
 }
 
-fn stss_entry(entries: &[u8], i: u32) {
+fn stss_entry(rt: &impl Print, entries: &[u8], i: u32) {
     if let U32::Is(x) = stss::entry(entries, i) {
-        say::open();
-        say::numbers(&[x as u64]);
-        say::close();
+        say::open(rt);
+        say::numbers(rt, &[x as u64]);
+        say::close(rt);
     }
 }
 
-fn stss_entries(entries: &[u8], n: u32) {
-    let mut i = 0;
-    while i < n {
-        stss_entry(entries, i);
-        i += 1;
+fn stss_entries(rt: &impl Print, entries: &[u8], n: u32) {
+    for i in 0..n {
+        stss_entry(rt, entries, i);
     }
 }
 
-fn stss(part: &[u8], out: &mut [u8]) {
+fn stss(rt: &impl Print, part: &[u8], out: &mut [u8]) {
     match stss::read(part) {
-        stss::Found::Refused(q) => say::refused(q),
+        stss::Found::Refused(q) => say::refused(rt, q),
         stss::Found::Is(b, from) => {
-            say::numbers(&[b.version as u64, b.flags as u64, b.count as u64]);
+            say::numbers(rt, &[b.version as u64, b.flags as u64, b.count as u64]);
             let entries = say::entries(part, from, (b.count as usize) * 4);
-            stss_entries(entries, b.count);
-            say::canonical(part, stss::KIND, say::whole(stss::ROW), entries.len());
+            stss_entries(rt, entries, b.count);
+            say::canonical(rt, part, stss::KIND, say::whole(stss::ROW), entries.len());
             let put = stss::write(b, entries, out);
-            say::written(put, part, out);
+            say::written(rt, put, part, out);
         }
     }
 }
 
-fn stco_entry(entries: &[u8], i: u32) {
+fn stco_entry(rt: &impl Print, entries: &[u8], i: u32) {
     if let U32::Is(x) = stco::entry(entries, i) {
-        say::open();
-        say::numbers(&[x as u64]);
-        say::close();
+        say::open(rt);
+        say::numbers(rt, &[x as u64]);
+        say::close(rt);
     }
 }
 
-fn stco_entries(entries: &[u8], n: u32) {
-    let mut i = 0;
-    while i < n {
-        stco_entry(entries, i);
-        i += 1;
+fn stco_entries(rt: &impl Print, entries: &[u8], n: u32) {
+    for i in 0..n {
+        stco_entry(rt, entries, i);
     }
 }
 
-fn stco(part: &[u8], out: &mut [u8]) {
+fn stco(rt: &impl Print, part: &[u8], out: &mut [u8]) {
     match stco::read(part) {
-        stco::Found::Refused(q) => say::refused(q),
+        stco::Found::Refused(q) => say::refused(rt, q),
         stco::Found::Is(b, from) => {
-            say::numbers(&[b.version as u64, b.flags as u64, b.count as u64]);
+            say::numbers(rt, &[b.version as u64, b.flags as u64, b.count as u64]);
             let entries = say::entries(part, from, (b.count as usize) * 4);
-            stco_entries(entries, b.count);
-            say::canonical(part, stco::KIND, say::whole(stco::ROW), entries.len());
+            stco_entries(rt, entries, b.count);
+            say::canonical(rt, part, stco::KIND, say::whole(stco::ROW), entries.len());
             let put = stco::write(b, entries, out);
-            say::written(put, part, out);
+            say::written(rt, put, part, out);
         }
     }
 }
 
-fn co64_entry(entries: &[u8], i: u32) {
+fn co64_entry(rt: &impl Print, entries: &[u8], i: u32) {
     if let U64::Is(x) = co64::entry(entries, i) {
-        say::open();
-        say::numbers(&[x]);
-        say::close();
+        say::open(rt);
+        say::numbers(rt, &[x]);
+        say::close(rt);
     }
 }
 
-fn co64_entries(entries: &[u8], n: u32) {
-    let mut i = 0;
-    while i < n {
-        co64_entry(entries, i);
-        i += 1;
+fn co64_entries(rt: &impl Print, entries: &[u8], n: u32) {
+    for i in 0..n {
+        co64_entry(rt, entries, i);
     }
 }
 
-fn co64(part: &[u8], out: &mut [u8]) {
+fn co64(rt: &impl Print, part: &[u8], out: &mut [u8]) {
     match co64::read(part) {
-        co64::Found::Refused(q) => say::refused(q),
+        co64::Found::Refused(q) => say::refused(rt, q),
         co64::Found::Is(b, from) => {
-            say::numbers(&[b.version as u64, b.flags as u64, b.count as u64]);
+            say::numbers(rt, &[b.version as u64, b.flags as u64, b.count as u64]);
             let entries = say::entries(part, from, (b.count as usize) * 8);
-            co64_entries(entries, b.count);
-            say::canonical(part, co64::KIND, say::whole(co64::ROW), entries.len());
+            co64_entries(rt, entries, b.count);
+            say::canonical(rt, part, co64::KIND, say::whole(co64::ROW), entries.len());
             let put = co64::write(b, entries, out);
-            say::written(put, part, out);
+            say::written(rt, put, part, out);
         }
     }
 }
@@ -207,70 +198,71 @@ fn listed(common: u32, count: u32) -> u32 {
     if common == 0 { count } else { 0 }
 }
 
-fn stsz_entry(entries: &[u8], i: u32) {
+fn stsz_entry(rt: &impl Print, entries: &[u8], i: u32) {
     if let U32::Is(x) = stsz::entry(entries, i) {
-        say::open();
-        say::numbers(&[x as u64]);
-        say::close();
+        say::open(rt);
+        say::numbers(rt, &[x as u64]);
+        say::close(rt);
     }
 }
 
-fn stsz_entries(entries: &[u8], n: u32) {
-    let mut i = 0;
-    while i < n {
-        stsz_entry(entries, i);
-        i += 1;
+fn stsz_entries(rt: &impl Print, entries: &[u8], n: u32) {
+    for i in 0..n {
+        stsz_entry(rt, entries, i);
     }
 }
 
-fn stsz(part: &[u8], out: &mut [u8]) {
+fn stsz(rt: &impl Print, part: &[u8], out: &mut [u8]) {
     match stsz::read(part) {
-        stsz::Found::Refused(q) => say::refused(q),
+        stsz::Found::Refused(q) => say::refused(rt, q),
         stsz::Found::Is(b, from) => {
-            say::numbers(&[
-                b.version as u64,
-                b.flags as u64,
-                b.sample_size as u64,
-                b.count as u64,
-            ]);
+            say::numbers(
+                rt,
+                &[
+                    b.version as u64,
+                    b.flags as u64,
+                    b.sample_size as u64,
+                    b.count as u64,
+                ],
+            );
             let n = listed(b.sample_size, b.count);
             let entries = say::entries(part, from, (n as usize) * 4);
-            stsz_entries(entries, n);
-            say::canonical(part, stsz::KIND, say::whole(stsz::ROW), entries.len());
+            stsz_entries(rt, entries, n);
+            say::canonical(rt, part, stsz::KIND, say::whole(stsz::ROW), entries.len());
             let put = stsz::write(b, entries, out);
-            say::written(put, part, out);
+            say::written(rt, put, part, out);
         }
     }
 }
 
 // Tells a box of one of these types, and answers whether it is one.
-pub(crate) fn copy(kind: u32, part: &[u8], out: &mut [u8]) -> bool {
+pub(crate) fn copy(rt: &impl Print, kind: u32, part: &[u8], out: &mut [u8]) -> bool {
     if kind == STTS {
-        stts(part, out);
+        stts(rt, part, out);
         return true;
     }
     if kind == CTTS {
-        ctts(part, out);
+        ctts(rt, part, out);
         return true;
     }
     if kind == STSC {
-        stsc(part, out);
+        stsc(rt, part, out);
         return true;
     }
     if kind == STSS {
-        stss(part, out);
+        stss(rt, part, out);
         return true;
     }
     if kind == STCO {
-        stco(part, out);
+        stco(rt, part, out);
         return true;
     }
     if kind == CO64 {
-        co64(part, out);
+        co64(rt, part, out);
         return true;
     }
     if kind == STSZ {
-        stsz(part, out);
+        stsz(rt, part, out);
         return true;
     }
     false

@@ -34,38 +34,51 @@ fn channels(configuration: u8) -> u16 {
     }
 }
 
-fn streamed(entry: mp4a::Mp4a, stream: esds::Esds, info: &[u8], out: &mut [u8]) {
-    let mut child = io::buffer();
+fn streamed(rt: &impl Print, entry: mp4a::Mp4a, stream: esds::Esds, info: &[u8], out: &mut [u8]) {
+    let mut child = [0u8; 4096];
     match esds_write::write(stream, &info[..0], info, &[2], &mut child) {
-        Put::Refused(q) => say::refused(q),
+        Put::Refused(q) => say::refused(rt, q),
         Put::Done(n) => {
             let put = mp4a::write(entry, say::bytes_at(&child, 0, n), out);
-            say::made(put, out);
+            say::made(rt, put, out);
         }
     }
 }
 
-fn heard(entry: mp4a::Mp4a, bitrate: u32, config: asc::Config, out: &mut [u8]) {
-    let mut info = io::buffer();
+fn heard(rt: &impl Print, entry: mp4a::Mp4a, bitrate: u32, config: asc::Config, out: &mut [u8]) {
+    let mut info = [0u8; 4096];
     match asc::write(config, &mut info) {
-        Put::Refused(q) => say::refused(q),
-        Put::Done(n) => streamed(entry, fresh::esds(bitrate), say::bytes_at(&info, 0, n), out),
+        Put::Refused(q) => say::refused(rt, q),
+        Put::Done(n) => streamed(
+            rt,
+            entry,
+            fresh::esds(bitrate),
+            say::bytes_at(&info, 0, n),
+            out,
+        ),
     }
 }
 
-fn sampled(frequency: u32, bitrate: u32, config: asc::Config, out: &mut [u8]) {
+fn sampled(rt: &impl Print, frequency: u32, bitrate: u32, config: asc::Config, out: &mut [u8]) {
     match fresh::mp4a(channels(config.channels), frequency) {
-        mp4a::Found::Refused(q) => say::refused(q),
-        mp4a::Found::Is(entry) => heard(entry, bitrate, config, out),
+        mp4a::Found::Refused(q) => say::refused(rt, q),
+        mp4a::Found::Is(entry) => heard(rt, entry, bitrate, config, out),
     }
 }
 
-fn configured(bitrate: u32, object: u8, index: u8, configuration: u8, out: &mut [u8]) {
+fn configured(
+    rt: &impl Print,
+    bitrate: u32,
+    object: u8,
+    index: u8,
+    configuration: u8,
+    out: &mut [u8],
+) {
     match audio::frequencies::frequency(index) {
-        U32::Refused(q) => say::refused(q),
+        U32::Refused(q) => say::refused(rt, q),
         U32::Is(frequency) => {
             match audio::channels::configuration(configuration) {
-                U8::Refused(q) => say::refused(q),
+                U8::Refused(q) => say::refused(rt, q),
                 U8::Is(c) => {
                     let config = asc::Config {
                         object_type: object,
@@ -73,7 +86,7 @@ fn configured(bitrate: u32, object: u8, index: u8, configuration: u8, out: &mut 
                         frequency: 0,
                         channels: c,
                     };
-                    sampled(frequency, bitrate, config, out);
+                    sampled(rt, frequency, bitrate, config, out);
                 }
             }
         }
@@ -81,7 +94,7 @@ fn configured(bitrate: u32, object: u8, index: u8, configuration: u8, out: &mut 
 }
 
 // A bitrate in four bytes, an object type, an index of a frequency and a channel configuration.
-fn sound(part: &[u8], out: &mut [u8]) -> bool {
+fn sound(rt: &impl Print, part: &[u8], out: &mut [u8]) -> bool {
     let U32::Is(bitrate) = numbers::u32_at(part, 8) else {
         return false;
     };
@@ -95,35 +108,50 @@ fn sound(part: &[u8], out: &mut [u8]) -> bool {
         return false;
     };
     match audio::objects::object_type(code) {
-        U8::Refused(q) => say::refused(q),
-        U8::Is(object) => configured(bitrate, object, index, configuration, out),
+        U8::Refused(q) => say::refused(rt, q),
+        U8::Is(object) => configured(rt, bitrate, object, index, configuration, out),
     }
     true
 }
 
-fn shown(entry: visual::Visual, kind: u32, child: &[u8], out: &mut [u8]) {
+fn shown(rt: &impl Print, entry: visual::Visual, kind: u32, child: &[u8], out: &mut [u8]) {
     let put = visual_write::write(entry, kind, child, out);
-    say::made(put, out);
+    say::made(rt, put, out);
 }
 
-fn coded(entry: visual::Visual, avcc: avcc::Avcc, sps: &[u8], pps: &[u8], out: &mut [u8]) {
-    let mut child = io::buffer();
+fn coded(
+    rt: &impl Print,
+    entry: visual::Visual,
+    avcc: avcc::Avcc,
+    sps: &[u8],
+    pps: &[u8],
+    out: &mut [u8],
+) {
+    let mut child = [0u8; 4096];
     match avcc::write(avcc, sps, pps, &sps[..0], &mut child) {
-        Put::Refused(q) => say::refused(q),
-        Put::Done(n) => shown(entry, AVC1, say::bytes_at(&child, 0, n), out),
+        Put::Refused(q) => say::refused(rt, q),
+        Put::Done(n) => shown(rt, entry, AVC1, say::bytes_at(&child, 0, n), out),
     }
 }
 
 // Each list has one set.
-fn listed(entry: visual::Visual, avcc: avcc::Avcc, sps: &[u8], pps: &[u8], out: &mut [u8]) {
-    let mut sequences = io::buffer();
-    let mut pictures = io::buffer();
+fn listed(
+    rt: &impl Print,
+    entry: visual::Visual,
+    avcc: avcc::Avcc,
+    sps: &[u8],
+    pps: &[u8],
+    out: &mut [u8],
+) {
+    let mut sequences = [0u8; 4096];
+    let mut pictures = [0u8; 4096];
     match sets::put_set(&mut sequences, 0, sps) {
-        Put::Refused(q) => say::refused(q),
+        Put::Refused(q) => say::refused(rt, q),
         Put::Done(n) => {
             match sets::put_set(&mut pictures, 0, pps) {
-                Put::Refused(q) => say::refused(q),
+                Put::Refused(q) => say::refused(rt, q),
                 Put::Done(m) => coded(
+                    rt,
                     entry,
                     avcc,
                     say::bytes_at(&sequences, 0, n),
@@ -135,15 +163,15 @@ fn listed(entry: visual::Visual, avcc: avcc::Avcc, sps: &[u8], pps: &[u8], out: 
     }
 }
 
-fn profiled(entry: visual::Visual, sps: &[u8], pps: &[u8], out: &mut [u8]) {
+fn profiled(rt: &impl Print, entry: visual::Visual, sps: &[u8], pps: &[u8], out: &mut [u8]) {
     match fresh::avcc(sps) {
-        fresh::Made::Refused(q) => say::refused(q),
-        fresh::Made::Is(avcc) => listed(entry, avcc, sps, pps, out),
+        fresh::Made::Refused(q) => say::refused(rt, q),
+        fresh::Made::Is(avcc) => listed(rt, entry, avcc, sps, pps, out),
     }
 }
 
 // A width, a height and the length of the sequence parameter set in two bytes each, that set, and a picture parameter set.
-fn avc(part: &[u8], out: &mut [u8]) -> bool {
+fn avc(rt: &impl Print, part: &[u8], out: &mut [u8]) -> bool {
     let U16::Is(width) = numbers::u16_at(part, 8) else {
         return false;
     };
@@ -155,12 +183,18 @@ fn avc(part: &[u8], out: &mut [u8]) -> bool {
     };
     let n = length as usize;
     let entry = fresh::visual(width, height);
-    profiled(entry, say::bytes_at(part, 14, n), behind(part, 14 + n), out);
+    profiled(
+        rt,
+        entry,
+        say::bytes_at(part, 14, n),
+        behind(part, 14 + n),
+        out,
+    );
     true
 }
 
 // A width and a height in two bytes each.
-fn vp9(part: &[u8], out: &mut [u8]) -> bool {
+fn vp9(rt: &impl Print, part: &[u8], out: &mut [u8]) -> bool {
     let U16::Is(width) = numbers::u16_at(part, 8) else {
         return false;
     };
@@ -168,32 +202,32 @@ fn vp9(part: &[u8], out: &mut [u8]) -> bool {
         return false;
     };
     let entry = fresh::visual(width, height);
-    let mut child = io::buffer();
+    let mut child = [0u8; 4096];
     match vpcc_write::write(fresh::vpcc(), &part[..0], &mut child) {
-        Put::Refused(q) => say::refused(q),
-        Put::Done(n) => shown(entry, VP09, say::bytes_at(&child, 0, n), out),
+        Put::Refused(q) => say::refused(rt, q),
+        Put::Done(n) => shown(rt, entry, VP09, say::bytes_at(&child, 0, n), out),
     }
     true
 }
 
-fn text(part: &[u8], out: &mut [u8]) {
+fn text(rt: &impl Print, part: &[u8], out: &mut [u8]) {
     let put = tx3g_write::write(fresh::tx3g(), &part[..0], out);
-    say::made(put, out);
+    say::made(rt, put, out);
 }
 
 // Answers a question of one of these letters, and whether it was one that is whole.
-pub(crate) fn tell(kind: u32, part: &[u8], out: &mut [u8]) -> bool {
+pub(crate) fn tell(rt: &impl Print, kind: u32, part: &[u8], out: &mut [u8]) -> bool {
     if kind == SOUND {
-        return sound(part, out);
+        return sound(rt, part, out);
     }
     if kind == AVC {
-        return avc(part, out);
+        return avc(rt, part, out);
     }
     if kind == VP9 {
-        return vp9(part, out);
+        return vp9(rt, part, out);
     }
     if kind == TEXT {
-        text(part, out);
+        text(rt, part, out);
         return true;
     }
     false

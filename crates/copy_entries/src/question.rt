@@ -20,15 +20,15 @@ fn asked(part: &[u8]) -> &[u8] {
     &part[8..]
 }
 
-fn head(s: &[u8]) {
+fn head(rt: &impl Print, s: &[u8]) {
     match descriptor::head_at(s, 0) {
-        Head::Refused(q) => say::refused(q),
-        Head::Is { tag, from, to } => say::numbers(&[tag as u64, from as u64, to as u64]),
+        Head::Refused(q) => say::refused(rt, q),
+        Head::Is { tag, from, to } => say::numbers(rt, &[tag as u64, from as u64, to as u64]),
     }
 }
 
 // A tag and a length in four bytes.
-fn put_head(part: &[u8], out: &mut [u8]) {
+fn put_head(rt: &impl Print, part: &[u8], out: &mut [u8]) {
     let U8::Is(tag) = numbers::u8_at(part, 8) else {
         return;
     };
@@ -36,21 +36,21 @@ fn put_head(part: &[u8], out: &mut [u8]) {
         return;
     };
     let put = descriptor_write::put_head(out, 0, tag, length);
-    say::made(put, out);
+    say::made(rt, put, out);
 }
 
-fn audio(s: &[u8]) {
+fn audio(rt: &impl Print, s: &[u8]) {
     match asc::read(s) {
-        asc::Found::Refused(q) => say::refused(q),
+        asc::Found::Refused(q) => say::refused(rt, q),
         asc::Found::Is(c) => {
-            say::two(c.object_type as u32, c.frequency_index as u32);
-            say::two(c.frequency, c.channels as u32);
+            say::two(rt, c.object_type as u32, c.frequency_index as u32);
+            say::two(rt, c.frequency, c.channels as u32);
         }
     }
 }
 
 // An object type, an index, a frequency in three bytes, and channels.
-fn put_audio(part: &[u8], out: &mut [u8]) {
+fn put_audio(rt: &impl Print, part: &[u8], out: &mut [u8]) {
     let U8::Is(object_type) = numbers::u8_at(part, 8) else {
         return;
     };
@@ -70,25 +70,25 @@ fn put_audio(part: &[u8], out: &mut [u8]) {
         channels: channels,
     };
     let put = asc::write(config, out);
-    say::made(put, out);
+    say::made(rt, put, out);
 }
 
 // Answers a question of one of these letters, and whether it was one.
-pub(crate) fn tell(kind: u32, part: &[u8], out: &mut [u8]) -> bool {
+pub(crate) fn tell(rt: &impl Print, kind: u32, part: &[u8], out: &mut [u8]) -> bool {
     if kind == HEAD {
-        head(asked(part));
+        head(rt, asked(part));
         return true;
     }
     if kind == PUT {
-        put_head(part, out);
+        put_head(rt, part, out);
         return true;
     }
     if kind == AUDIO {
-        audio(asked(part));
+        audio(rt, asked(part));
         return true;
     }
     if kind == PUT_AUDIO {
-        put_audio(part, out);
+        put_audio(rt, part, out);
         return true;
     }
     false

@@ -1,109 +1,102 @@
 // The words of a line: each begins with a space.
-use libc::STDOUT_FILENO;
 use numbers::Refusal;
 use put::Put;
 
-pub(crate) fn text(s: &[u8]) {
-    io::write_all(STDOUT_FILENO, s);
+pub(crate) fn text(rt: &impl Print, s: &[u8]) {
+    let _ = rt.write_all(s);
 }
 
-fn number(n: u64) {
-    text(b" ");
-    io::print_decimal(STDOUT_FILENO, n);
+fn number(rt: &impl Print, n: u64) {
+    text(rt, b" ");
+    let _ = rt.print(n);
 }
 
-pub(crate) fn numbers(row: &[u64]) {
-    let mut i = 0;
-    while i < row.len() {
-        number(row[i]);
-        i += 1;
+pub(crate) fn numbers(rt: &impl Print, row: &[u64]) {
+    for n in row {
+        number(rt, *n);
     }
 }
 
-pub(crate) fn one(a: u32) {
-    number(a as u64);
+pub(crate) fn one(rt: &impl Print, a: u32) {
+    number(rt, a as u64);
 }
 
-pub(crate) fn two(a: u32, b: u32) {
-    numbers(&[a as u64, b as u64]);
+pub(crate) fn two(rt: &impl Print, a: u32, b: u32) {
+    numbers(rt, &[a as u64, b as u64]);
 }
 
 // An entry of a table stands in brackets.
-pub(crate) fn open() {
-    text(b" [");
+pub(crate) fn open(rt: &impl Print) {
+    text(rt, b" [");
 }
 
-pub(crate) fn close() {
-    text(b" ]");
+pub(crate) fn close(rt: &impl Print) {
+    text(rt, b" ]");
 }
 
-fn digits_of(b: u8) {
-    io::print_hex(STDOUT_FILENO, b as u64, 2);
+fn digits_of(rt: &impl Print, b: u8) {
+    let _ = print!(rt; "{b:02x}");
 }
 
 // Two digits for each byte.
-fn digits(s: &[u8]) {
-    let mut i = 0;
-    while i < s.len() {
-        digits_of(s[i]);
-        i += 1;
+fn digits(rt: &impl Print, s: &[u8]) {
+    for b in s {
+        digits_of(rt, *b);
     }
 }
 
 // Bytes of any kind: an x, so that none are a word too, and their digits.
-pub(crate) fn bytes(s: &[u8]) {
-    text(b" x");
-    digits(s);
+pub(crate) fn bytes(rt: &impl Print, s: &[u8]) {
+    text(rt, b" x");
+    digits(rt, s);
 }
 
 // Four numbers of eight bytes, as bytes.
-pub(crate) fn eights(a: u64, b: u64, c: u64, d: u64) {
-    text(b" x");
-    io::print_hex(STDOUT_FILENO, a, 16);
-    io::print_hex(STDOUT_FILENO, b, 16);
-    io::print_hex(STDOUT_FILENO, c, 16);
-    io::print_hex(STDOUT_FILENO, d, 16);
+pub(crate) fn eights(rt: &impl Print, a: u64, b: u64, c: u64, d: u64) {
+    text(rt, b" x");
+    let _ = print!(rt; "{a:016x}");
+    let _ = print!(rt; "{b:016x}");
+    let _ = print!(rt; "{c:016x}");
+    let _ = print!(rt; "{d:016x}");
 }
 
-pub(crate) fn refused(q: Refusal) {
-    text(b" refused");
-    number(q.number as u64);
-    number(q.detail as u64);
+pub(crate) fn refused(rt: &impl Print, q: Refusal) {
+    text(rt, b" refused");
+    number(rt, q.number as u64);
+    number(rt, q.detail as u64);
 }
 
 fn begins_with(s: &[u8], t: &[u8]) -> bool {
     if s.len() < t.len() {
         return false;
     }
-    let mut i = 0;
-    while i < t.len() {
+    for i in 0..t.len() {
         if s[i] != t[i] {
             return false;
         }
-        i += 1;
     }
     true
 }
 
 // The written box holds its own size, so where the part begins with it, it is the whole box that was read.
-fn compared(part: &[u8], written: &[u8]) {
+fn compared(rt: &impl Print, part: &[u8], written: &[u8]) {
     if begins_with(part, written) {
-        text(b" same");
+        text(rt, b" same");
     } else {
-        text(b" wrote ");
-        digits(written);
+        text(rt, b" wrote ");
+        digits(rt, written);
     }
 }
 
 // What the writer made of a box that was read from `part`.
-pub(crate) fn written(put: Put, part: &[u8], out: &[u8]) {
+pub(crate) fn written(rt: &impl Print, put: Put, part: &[u8], out: &[u8]) {
     match put {
         Put::Refused(q) => {
-            text(b" unwritten");
-            number(q.number as u64);
-            number(q.detail as u64);
+            text(rt, b" unwritten");
+            number(rt, q.number as u64);
+            number(rt, q.detail as u64);
         }
-        Put::Done(n) => compared(part, bytes_at(out, 0, n)),
+        Put::Done(n) => compared(rt, part, bytes_at(out, 0, n)),
     }
 }
 
@@ -120,9 +113,9 @@ pub(crate) fn bytes_at(part: &[u8], from: usize, n: usize) -> &[u8] {
 }
 
 // What was made alone, of no box that was read.
-pub(crate) fn made(put: Put, out: &[u8]) {
+pub(crate) fn made(rt: &impl Print, put: Put, out: &[u8]) {
     match put {
-        Put::Refused(q) => refused(q),
-        Put::Done(n) => bytes(bytes_at(out, 0, n)),
+        Put::Refused(q) => refused(rt, q),
+        Put::Done(n) => bytes(rt, bytes_at(out, 0, n)),
     }
 }

@@ -5,51 +5,61 @@ use decoderconfig::Config;
 use esds::Decoder;
 use esfields::Stream;
 
-fn fields(stream: Stream, url: &[u8]) {
-    say::numbers(&[
-        stream.id as u64,
-        stream.flags as u64,
-        stream.depends_on as u64,
-    ]);
-    say::bytes(url);
-    say::one(stream.ocr_id as u32);
+fn fields(rt: &impl Print, stream: Stream, url: &[u8]) {
+    say::numbers(
+        rt,
+        &[
+            stream.id as u64,
+            stream.flags as u64,
+            stream.depends_on as u64,
+        ],
+    );
+    say::bytes(rt, url);
+    say::one(rt, stream.ocr_id as u32);
 }
 
-fn decoder(config: Config, info: &[u8]) {
-    say::open();
-    say::two(config.object_type_indication as u32, config.stream as u32);
-    say::numbers(&[
-        config.buffer_size as u64,
-        config.max_bitrate as u64,
-        config.avg_bitrate as u64,
-    ]);
+fn decoder(rt: &impl Print, config: Config, info: &[u8]) {
+    say::open(rt);
+    say::two(
+        rt,
+        config.object_type_indication as u32,
+        config.stream as u32,
+    );
+    say::numbers(
+        rt,
+        &[
+            config.buffer_size as u64,
+            config.max_bitrate as u64,
+            config.avg_bitrate as u64,
+        ],
+    );
     if config.has_info {
-        say::bytes(info);
+        say::bytes(rt, info);
     }
-    say::close();
+    say::close(rt);
 }
 
 // Tells a box of this type, and whether it was one.
-pub(crate) fn tell(kind: u32, part: &[u8], out: &mut [u8]) -> bool {
+pub(crate) fn tell(rt: &impl Print, kind: u32, part: &[u8], out: &mut [u8]) -> bool {
     if kind != esds::KIND {
         return false;
     }
     match esds::read(part) {
-        esds::Found::Refused(q) => say::refused(q),
+        esds::Found::Refused(q) => say::refused(rt, q),
         esds::Found::Is(b, places) => {
-            say::one(b.flags);
-            fields(b.stream, esds_parts::url(part));
+            say::one(rt, b.flags);
+            fields(rt, b.stream, esds_parts::url(part));
             let configured = b.decoder;
             match configured {
-                Decoder::Absent => say::text(b""),
-                Decoder::Is(config) => decoder(config, esds_parts::info(part)),
+                Decoder::Absent => say::text(rt, b""),
+                Decoder::Is(config) => decoder(rt, config, esds_parts::info(part)),
             }
             let sl = esds_parts::sl(part);
             if b.has_sl {
-                say::bytes(sl);
+                say::bytes(rt, sl);
             }
             let put = esds_write::write(b, esds_parts::url(part), esds_parts::info(part), sl, out);
-            say::written(put, part, out);
+            say::written(rt, put, part, out);
         }
     }
     true

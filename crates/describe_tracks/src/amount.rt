@@ -13,27 +13,27 @@ fn whole(x: f64) -> u64 {
     0
 }
 
-fn figure(x: f64) {
+fn figure(rt: &impl Print, x: f64) {
     let n = whole(x);
     let behind = x - std::num::nearest_u64_to_f64(n);
-    say::number(n);
-    say::number(whole(behind * 65536.0));
+    say::number(rt, n);
+    say::number(rt, whole(behind * 65536.0));
 }
 
-fn summed(s: Summary) {
-    say::text(b"summary");
-    figure(s.frame_rate);
-    figure(s.width);
-    figure(s.height);
-    say::number(s.micros);
-    say::end();
+fn summed(rt: &impl Print, s: Summary) {
+    say::text(rt, b"summary");
+    figure(rt, s.frame_rate);
+    figure(rt, s.width);
+    figure(rt, s.height);
+    say::number(rt, s.micros);
+    say::end(rt);
 }
 
-pub(crate) fn tell(trak: &[u8]) {
-    say::eight(b"bytes", track_size::bytes(trak));
-    say::four(b"bitrate", track_size::bitrate(trak));
+pub(crate) fn tell(rt: &impl Print, trak: &[u8]) {
+    say::eight(rt, b"bytes", track_size::bytes(trak));
+    say::four(rt, b"bitrate", track_size::bitrate(trak));
     match track_size::summary(trak) {
-        Summed::Is(s) => summed(s),
-        Summed::Refused(q) => say::refused(b"summary", q),
+        Summed::Is(s) => summed(rt, s),
+        Summed::Refused(q) => say::refused(rt, b"summary", q),
     }
 }

@@ -4,83 +4,136 @@
 // `trak` with that length, then a line for each getter: its name, what it is asked for besides, and the answer, or
 // `refused` with the number and the detail. Words have a tab between them; parts are an x and their digits, or, of boxes, how
 // many bytes they have.
+ghost use Rattle.std.specs.Prelude.{◌≤◌, length};
+
 mod amount;
-mod audio;
 mod place;
 mod plain;
 mod say;
+mod sound;
 mod video;
 
-use libc::STDOUT_FILENO;
 use packs::Item;
+use std::alloc::AllocError;
+use std::env::{Env, FillError};
+use std::fs::File;
+use std::io::{ErrorKind, Read};
+use std::{fs, io};
 
-fn tell_trak(trak: &[u8]) {
-    say::count(b"trak", trak.len() as u64);
-    place::tell(trak);
-    plain::tell(trak);
-    video::tell(trak);
-    audio::tell(trak);
-    amount::tell(trak);
+fn tell_trak(rt: &impl Print, trak: &[u8]) {
+    say::count(rt, b"trak", trak.len() as u64);
+    place::tell(rt, trak);
+    plain::tell(rt, trak);
+    video::tell(rt, trak);
+    sound::tell(rt, trak);
+    amount::tell(rt, trak);
 }
 
 // The entry at `at`, and where the next one begins; the pack's end where this one is not whole.
-fn tell_entry(pack: &[u8], at: usize) -> usize {
+fn tell_entry(rt: &impl Print, pack: &[u8], at: usize) -> usize {
     match packs::item_at(pack, at) {
         Item::End => pack.len(),
         Item::Cut => {
-            say::text(b"cut\n");
+            say::text(rt, b"cut\n");
             pack.len()
         }
         Item::Is(from, length) => {
-            tell_trak(parts::part(pack, from, length));
+            tell_trak(rt, parts::part(pack, from, length));
             from + length
         }
     }
 }
 
 // No pack has more entries than bytes.
-fn tell_pack(pack: &[u8]) {
+fn tell_pack(rt: &impl Print, pack: &[u8]) {
     let mut at = 0;
-    let mut i = 0;
-    while i < pack.len() {
+    for _ in 0..pack.len() {
         if pack.len() <= at {
             return;
         }
-        at = tell_entry(pack, at);
-        i += 1;
+        at = tell_entry(rt, pack, at);
     }
+}
+
+// How many arguments the program was started with, its own name among them.
+fn arg_count(rt: &impl Env) -> usize {
+    for i in 0..usize::MAX {
+        if let Err(FillError::NotPresent) = rt.arg(i, &mut [0u8; 0]) {
+            return i;
+        }
+    }
+    usize::MAX
+}
+
+// Opens the file of that name. A name that is no UTF-8 cannot be opened.
+fn open_read(rt: &HostRuntime, name: &[u8]) -> io::Result<File> {
+    match str::from_utf8(name) {
+        Ok(path) => fs::open(rt, path),
+        Err(_) => Err(io::Error::from(ErrorKind::InvalidFilename)),
+    }
+}
+
+// Reads until the room is full, the input ends or a read fails, and tells how many bytes it put into the room.
+fn read_full(from: &mut impl Read, room: &mut [u8]) -> usize
+    ensures { result ≤ length room.new }
+{
+    let mut done = 0;
+    while done < room.len() {
+        match from.read(&mut room[done..]) {
+            Ok(0) | Err(_) => break,
+            Ok(n) => done += n,
+        }
+    }
+    done
+}
+
+// The system's words for why a call failed, without the number that stands behind them.
+fn words(why: &str) -> &str {
+    match why.split_once(" (os error ") {
+        Some((words, _)) => words,
+        None => why,
+    }
+}
+
+// Writes a line to standard error: what failed, and why.
+fn fail(rt: &HostRuntime, what: &[u8], why: &str) {
+    let err = rt.stderr();
+    say::text(&err, what);
+    say::text(&err, b": ");
+    let _ = err.println(why);
 }
 
 // Packs of up to 1 MiB: what lies behind that is not read.
-fn tell_file(fd: i32) {
-    let mut buffer = [0u8; 1048576];
-    let got = io::read_full(fd, &mut buffer);
-    tell_pack(&buffer[..got]);
+fn tell_file(rt: &HostRuntime, file: &mut File) -> Result<(), AllocError> {
+    let mut buffer = vec![in rt.alloc(); 0u8; 1048576]?;
+    let got = read_full(file, buffer.as_mut_slice());
+    tell_pack(rt, &buffer.as_slice()[..got]);
+    Ok(())
 }
 
-fn tell_argument(i: usize) {
-    let mut path = io::buffer();
-    let length = os::arg(i, &mut path);
-    if os::errno() != 0 {
-        os::fail(b"argument");
-        return;
+fn tell_argument(rt: &HostRuntime, i: usize) -> Result<(), AllocError> {
+    let mut path = [0u8; 4096];
+    let Ok(length) = rt.arg(i, &mut path) else {
+        fail(rt, b"argument", "File name too long");
+        return Ok(());
+    };
+    match open_read(rt, &path[..length]) {
+        Ok(mut file) => {
+            say::text(rt, &path[..length]);
+            say::text(rt, b"\n");
+            tell_file(rt, &mut file)
+        }
+        Err(e) => {
+            let why = format!(in rt.alloc(); "{e}")?;
+            fail(rt, &path[..length], words(why.as_str()));
+            Ok(())
+        }
     }
-    let fd = os::open_read(&path[..length]);
-    if fd < 0 {
-        os::fail(&path[..length]);
-        return;
-    }
-    io::write_all(STDOUT_FILENO, &path[..length]);
-    say::text(b"\n");
-    tell_file(fd);
-    libc::close(fd);
 }
 
-fn main() {
-    let n = os::arg_count();
-    let mut i = 1;
-    while i < n {
-        tell_argument(i);
-        i += 1;
+fn main(rt: HostRuntime) -> Result<(), AllocError> {
+    for i in 1..arg_count(&rt) {
+        tell_argument(&rt, i)?;
     }
+    Ok(())
 }

@@ -11,57 +11,57 @@ fn letter(b: u8) -> u8 {
     if (b < 0x20) | (0x7e < b) { b'?' } else { b }
 }
 
-fn spoken(l: Letters) {
+fn spoken(rt: &impl Print, l: Letters) {
     let first = letter(l.first);
     let second = letter(l.second);
     let third = letter(l.third);
-    say::word(b"language", &[first, second, third]);
+    say::word(rt, b"language", &[first, second, third]);
 }
 
-fn language(trak: &[u8]) {
+fn language(rt: &impl Print, trak: &[u8]) {
     match track::language(trak) {
-        Spoken::Is(l) => spoken(l),
-        Spoken::Refused(q) => say::refused(b"language", q),
+        Spoken::Is(l) => spoken(rt, l),
+        Spoken::Refused(q) => say::refused(rt, b"language", q),
     }
 }
 
-fn kind_word(k: Kind) {
+fn kind_word(rt: &impl Print, k: Kind) {
     match k {
-        Kind::Video => say::word(b"kind", b"video"),
-        Kind::Audio => say::word(b"kind", b"audio"),
-        Kind::Subtitle => say::word(b"kind", b"subtitle"),
+        Kind::Video => say::word(rt, b"kind", b"video"),
+        Kind::Audio => say::word(rt, b"kind", b"audio"),
+        Kind::Subtitle => say::word(rt, b"kind", b"subtitle"),
     }
 }
 
-fn kind(trak: &[u8]) {
+fn kind(rt: &impl Print, trak: &[u8]) {
     match track::kind(trak) {
-        handlers::Told::Is(k) => kind_word(k),
-        handlers::Told::Refused(q) => say::refused(b"kind", q),
+        handlers::Told::Is(k) => kind_word(rt, k),
+        handlers::Told::Refused(q) => say::refused(rt, b"kind", q),
     }
 }
 
-fn media_word(m: Media) {
+fn media_word(rt: &impl Print, m: Media) {
     match m {
-        Media::H264 => say::word(b"media", b"h264"),
-        Media::H265 => say::word(b"media", b"h265"),
-        Media::VP9 => say::word(b"media", b"vp9"),
-        Media::AAC => say::word(b"media", b"aac"),
-        Media::TTXT => say::word(b"media", b"ttxt"),
+        Media::H264 => say::word(rt, b"media", b"h264"),
+        Media::H265 => say::word(rt, b"media", b"h265"),
+        Media::VP9 => say::word(rt, b"media", b"vp9"),
+        Media::AAC => say::word(rt, b"media", b"aac"),
+        Media::TTXT => say::word(rt, b"media", b"ttxt"),
     }
 }
 
-fn coded(trak: &[u8]) {
+fn coded(rt: &impl Print, trak: &[u8]) {
     match track::media(trak) {
-        entries::Told::Is(m) => media_word(m),
-        entries::Told::Refused(q) => say::refused(b"media", q),
+        entries::Told::Is(m) => media_word(rt, m),
+        entries::Told::Refused(q) => say::refused(rt, b"media", q),
     }
 }
 
-pub(crate) fn tell(trak: &[u8]) {
-    say::four(b"number", track::number(trak));
-    say::four(b"timescale", track::timescale(trak));
-    language(trak);
-    kind(trak);
-    coded(trak);
-    say::four(b"samples", track::samples(trak));
+pub(crate) fn tell(rt: &impl Print, trak: &[u8]) {
+    say::four(rt, b"number", track::number(trak));
+    say::four(rt, b"timescale", track::timescale(trak));
+    language(rt, trak);
+    kind(rt, trak);
+    coded(rt, trak);
+    say::four(rt, b"samples", track::samples(trak));
 }

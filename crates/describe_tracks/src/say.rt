@@ -1,84 +1,81 @@
 // The words of a line: the name of a getter first, then each behind a tab.
-use libc::STDOUT_FILENO;
 use numbers::{Refusal, U8, U32, U64};
 
-pub(crate) fn text(s: &[u8]) {
-    io::write_all(STDOUT_FILENO, s);
+pub(crate) fn text(rt: &impl Print, s: &[u8]) {
+    let _ = rt.write_all(s);
 }
 
-pub(crate) fn number(n: u64) {
-    text(b"\t");
-    io::print_decimal(STDOUT_FILENO, n);
+pub(crate) fn number(rt: &impl Print, n: u64) {
+    text(rt, b"\t");
+    let _ = rt.print(n);
 }
 
-pub(crate) fn end() {
-    text(b"\n");
+pub(crate) fn end(rt: &impl Print) {
+    text(rt, b"\n");
 }
 
 // A line of one number.
-pub(crate) fn count(name: &[u8], n: u64) {
-    text(name);
-    number(n);
-    end();
+pub(crate) fn count(rt: &impl Print, name: &[u8], n: u64) {
+    text(rt, name);
+    number(rt, n);
+    end(rt);
 }
 
 // A line of one word.
-pub(crate) fn word(name: &[u8], told: &[u8]) {
-    text(name);
-    text(b"\t");
-    text(told);
-    end();
+pub(crate) fn word(rt: &impl Print, name: &[u8], told: &[u8]) {
+    text(rt, name);
+    text(rt, b"\t");
+    text(rt, told);
+    end(rt);
 }
 
 // The end of a line that tells a refusal.
-pub(crate) fn refusal(q: Refusal) {
-    text(b"\trefused");
-    number(q.number as u64);
-    number(q.detail as u64);
-    end();
+pub(crate) fn refusal(rt: &impl Print, q: Refusal) {
+    text(rt, b"\trefused");
+    number(rt, q.number as u64);
+    number(rt, q.detail as u64);
+    end(rt);
 }
 
-pub(crate) fn refused(name: &[u8], q: Refusal) {
-    text(name);
-    refusal(q);
+pub(crate) fn refused(rt: &impl Print, name: &[u8], q: Refusal) {
+    text(rt, name);
+    refusal(rt, q);
 }
 
-pub(crate) fn one(name: &[u8], answer: U8) {
+pub(crate) fn one(rt: &impl Print, name: &[u8], answer: U8) {
     match answer {
-        U8::Is(n) => count(name, n as u64),
-        U8::Refused(q) => refused(name, q),
+        U8::Is(n) => count(rt, name, n as u64),
+        U8::Refused(q) => refused(rt, name, q),
     }
 }
 
-pub(crate) fn four(name: &[u8], answer: U32) {
+pub(crate) fn four(rt: &impl Print, name: &[u8], answer: U32) {
     match answer {
-        U32::Is(n) => count(name, n as u64),
-        U32::Refused(q) => refused(name, q),
+        U32::Is(n) => count(rt, name, n as u64),
+        U32::Refused(q) => refused(rt, name, q),
     }
 }
 
-pub(crate) fn eight(name: &[u8], answer: U64) {
+pub(crate) fn eight(rt: &impl Print, name: &[u8], answer: U64) {
     match answer {
-        U64::Is(n) => count(name, n),
-        U64::Refused(q) => refused(name, q),
+        U64::Is(n) => count(rt, name, n),
+        U64::Refused(q) => refused(rt, name, q),
     }
 }
 
-fn digits_of(b: u8) {
-    io::print_hex(STDOUT_FILENO, b as u64, 2);
+fn digits_of(rt: &impl Print, b: u8) {
+    let _ = print!(rt; "{b:02x}");
 }
 
 // Two digits for each byte.
-fn digits(s: &[u8]) {
-    let mut i = 0;
-    while i < s.len() {
-        digits_of(s[i]);
-        i += 1;
+fn digits(rt: &impl Print, s: &[u8]) {
+    for b in s {
+        digits_of(rt, *b);
     }
 }
 
 // Bytes of any kind: an x, so that none are a word too, and their digits.
-pub(crate) fn bytes(s: &[u8]) {
-    text(b"\tx");
-    digits(s);
+pub(crate) fn bytes(rt: &impl Print, s: &[u8]) {
+    text(rt, b"\tx");
+    digits(rt, s);
 }

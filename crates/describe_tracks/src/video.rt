@@ -3,50 +3,50 @@ use crate::say;
 use profiles::{Profile, Told};
 use rows::Judged;
 
-fn profile_word(p: Profile) {
+fn profile_word(rt: &impl Print, p: Profile) {
     match p {
-        Profile::ConstrainedBaseline => say::word(b"video_profile", b"constrained"),
-        Profile::Baseline => say::word(b"video_profile", b"baseline"),
-        Profile::Main => say::word(b"video_profile", b"main"),
-        Profile::Extended => say::word(b"video_profile", b"extended"),
-        Profile::High => say::word(b"video_profile", b"high"),
+        Profile::ConstrainedBaseline => say::word(rt, b"video_profile", b"constrained"),
+        Profile::Baseline => say::word(rt, b"video_profile", b"baseline"),
+        Profile::Main => say::word(rt, b"video_profile", b"main"),
+        Profile::Extended => say::word(rt, b"video_profile", b"extended"),
+        Profile::High => say::word(rt, b"video_profile", b"high"),
     }
 }
 
-fn profile(trak: &[u8]) {
+fn profile(rt: &impl Print, trak: &[u8]) {
     match track_video::profile(trak) {
-        Told::Is(p) => profile_word(p),
-        Told::Refused(q) => say::refused(b"video_profile", q),
+        Told::Is(p) => profile_word(rt, p),
+        Told::Refused(q) => say::refused(rt, b"video_profile", q),
     }
 }
 
-fn part(name: &[u8], i: u8, found: &[u8]) {
-    say::text(name);
-    say::number(i as u64);
-    say::bytes(found);
-    say::end();
+fn part(rt: &impl Print, name: &[u8], i: u8, found: &[u8]) {
+    say::text(rt, name);
+    say::number(rt, i as u64);
+    say::bytes(rt, found);
+    say::end(rt);
 }
 
-fn judged(name: &[u8], i: u8, answer: Judged) {
-    say::text(name);
-    say::number(i as u64);
+fn judged(rt: &impl Print, name: &[u8], i: u8, answer: Judged) {
+    say::text(rt, name);
+    say::number(rt, i as u64);
     match answer {
-        Judged::Fine => say::text(b"\tfine\n"),
-        Judged::Wrong(q) => say::refusal(q),
+        Judged::Fine => say::text(rt, b"\tfine\n"),
+        Judged::Wrong(q) => say::refusal(rt, q),
     }
 }
 
-fn sets(trak: &[u8], i: u8) {
-    part(b"sps", i, track_video::sps(trak, i));
-    judged(b"sps_fault", i, track_video::sps_fault(trak, i));
-    part(b"pps", i, track_video::pps(trak, i));
-    judged(b"pps_fault", i, track_video::pps_fault(trak, i));
+fn sets(rt: &impl Print, trak: &[u8], i: u8) {
+    part(rt, b"sps", i, track_video::sps(trak, i));
+    judged(rt, b"sps_fault", i, track_video::sps_fault(trak, i));
+    part(rt, b"pps", i, track_video::pps(trak, i));
+    judged(rt, b"pps_fault", i, track_video::pps_fault(trak, i));
 }
 
-pub(crate) fn tell(trak: &[u8]) {
-    profile(trak);
-    sets(trak, 0);
-    sets(trak, 1);
-    sets(trak, 30);
-    sets(trak, 255);
+pub(crate) fn tell(rt: &impl Print, trak: &[u8]) {
+    profile(rt, trak);
+    sets(rt, trak, 0);
+    sets(rt, trak, 1);
+    sets(rt, trak, 30);
+    sets(rt, trak, 255);
 }

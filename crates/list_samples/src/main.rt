@@ -8,14 +8,20 @@
 // whether it is sync (1 or 0), and then `same` where the lookup has the same, else `other`. A lookup's line has `sample`,
 // the number, the same numbers or its refusal, and then whether the sample is sync, or that refusal. Words have a tab
 // between them.
+ghost use Rattle.std.specs.Prelude.{◌≤◌, length};
+
 mod say;
 
 use lanes::Taken;
-use libc::STDOUT_FILENO;
 use lookup::Synced;
 use numbers::U32;
 use samples::{Located, Sample};
 use stbl::Found;
+use std::alloc::AllocError;
+use std::env::{Env, FillError};
+use std::fs::File;
+use std::io::{ErrorKind, Read};
+use std::{fs, io};
 use tableboxes::Places;
 use tables::Track;
 
@@ -31,12 +37,12 @@ fn bit(b: bool) -> u64 {
     if b { 1 } else { 0 }
 }
 
-fn print_fields(s: Located) {
-    say::next_number(s.offset);
-    say::next_number(s.size as u64);
-    say::next_number(s.time);
-    say::next_number(s.duration as u64);
-    say::next_signed(s.composition);
+fn print_fields(rt: &impl Print, s: Located) {
+    say::next_number(rt, s.offset);
+    say::next_number(rt, s.size as u64);
+    say::next_number(rt, s.time);
+    say::next_number(rt, s.duration as u64);
+    say::next_signed(rt, s.composition);
 }
 
 // What a lookup should tell of the sample.
@@ -73,114 +79,110 @@ fn looks_up(file: &[u8], track: Track, s: Sample) -> bool {
     }
 }
 
-fn print_sample(file: &[u8], track: Track, s: Sample) {
-    say::number(s.number as u64);
-    print_fields(located(s));
-    say::next_number(bit(s.sync));
+fn print_sample(rt: &impl Print, file: &[u8], track: Track, s: Sample) {
+    say::number(rt, s.number as u64);
+    print_fields(rt, located(s));
+    say::next_number(rt, bit(s.sync));
     if looks_up(file, track, s) {
-        say::text(b"\tsame\n");
+        say::text(rt, b"\tsame\n");
     } else {
-        say::text(b"\tother\n");
+        say::text(rt, b"\tother\n");
     }
 }
 
 // The samples that a lane gives, and how many these are.
-fn list_lane(file: &[u8], track: Track) -> u32 {
+fn list_lane(rt: &impl Print, file: &[u8], track: Track) -> u32 {
     let mut lane = lanes::start();
-    let mut i = 0;
-    while i < SAMPLES {
+    for i in 0..SAMPLES {
         match lanes::next(file, track, lane) {
             Taken::End => {
-                say::text(b"end\n");
+                say::text(rt, b"end\n");
                 return i;
             }
             Taken::Over => {
-                say::refused(9, 0);
-                say::text(b"\n");
+                say::refused(rt, 9, 0);
+                say::text(rt, b"\n");
                 return i;
             }
             Taken::One {
                 sample,
                 lane: after,
             } => {
-                print_sample(file, track, sample);
+                print_sample(rt, file, track, sample);
                 lane = after;
             }
         }
-        i += 1;
     }
-    say::text(b"more\n");
-    i
+    say::text(rt, b"more\n");
+    SAMPLES
 }
 
-fn print_sync(file: &[u8], track: Track, number: u32) {
+fn print_sync(rt: &impl Print, file: &[u8], track: Track, number: u32) {
     match lookup::is_sync(file, track, number) {
-        Synced::Is(b) => say::next_number(bit(b)),
+        Synced::Is(b) => say::next_number(rt, bit(b)),
         Synced::Refused(q) => {
-            say::text(b"\t");
-            say::refused(q.number, q.detail);
+            say::text(rt, b"\t");
+            say::refused(rt, q.number, q.detail);
         }
     }
 }
 
-fn print_lookup(file: &[u8], track: Track, number: u32) {
-    say::text(b"sample");
-    say::next_number(number as u64);
+fn print_lookup(rt: &impl Print, file: &[u8], track: Track, number: u32) {
+    say::text(rt, b"sample");
+    say::next_number(rt, number as u64);
     match locate::sample(file, track, number) {
-        samples::Found::Is(s) => print_fields(s),
+        samples::Found::Is(s) => print_fields(rt, s),
         samples::Found::Refused(q) => {
-            say::text(b"\t");
-            say::refused(q.number, q.detail);
+            say::text(rt, b"\t");
+            say::refused(rt, q.number, q.detail);
         }
     }
-    print_sync(file, track, number);
-    say::text(b"\n");
+    print_sync(rt, file, track, number);
+    say::text(rt, b"\n");
 }
 
 // The lookups behind so many samples.
-fn look_behind(file: &[u8], track: Track, told: u32, count: u32) {
-    let mut i = told;
-    while i < count {
+fn look_behind(rt: &impl Print, file: &[u8], track: Track, told: u32, count: u32) {
+    for i in told..count {
         if BEHIND <= i - told {
             return;
         }
-        i += 1;
-        print_lookup(file, track, i);
+        print_lookup(rt, file, track, i + 1);
     }
 }
 
-fn list_track(file: &[u8], track: Track) {
+fn list_track(rt: &impl Print, file: &[u8], track: Track) {
     let count = lookup::count(file, track);
-    say::text(b"track");
-    say::next_number(count as u64);
-    say::next_number(lookup::total(file, track));
-    say::text(b"\n");
-    let told = list_lane(file, track);
-    print_lookup(file, track, 0);
-    look_behind(file, track, told, count);
+    say::text(rt, b"track");
+    say::next_number(rt, count as u64);
+    say::next_number(rt, lookup::total(file, track));
+    say::text(rt, b"\n");
+    let told = list_lane(rt, file, track);
+    print_lookup(rt, file, track, 0);
+    look_behind(rt, file, track, told, count);
     if count < FAR {
-        print_lookup(file, track, count + 1);
+        print_lookup(rt, file, track, count + 1);
     }
-    print_lookup(file, track, FAR);
+    print_lookup(rt, file, track, FAR);
 }
 
-fn print_refused(number: u32, detail: usize) {
-    say::refused(number, detail);
-    say::text(b"\n");
+fn print_refused(rt: &impl Print, number: u32, detail: usize) {
+    say::refused(rt, number, detail);
+    say::text(rt, b"\n");
 }
 
-fn list_stbl(part: &[u8]) {
+fn list_stbl(rt: &impl Print, part: &[u8]) {
     match tableboxes::find(part) {
-        Places::Refused(q) => print_refused(q.number, q.detail),
+        Places::Refused(q) => print_refused(rt, q.number, q.detail),
         Places::Are(boxes) => match stbl::track(part, boxes) {
-            Found::Refused(q) => print_refused(q.number, q.detail),
-            Found::Is(track) => list_track(part, track),
+            Found::Refused(q) => print_refused(rt, q.number, q.detail),
+            Found::Is(track) => list_track(rt, part, track),
         },
     }
 }
 
 // The entry at `at`, and where the next one begins; the pack's end where this one is not whole.
-fn list_entry(pack: &[u8], at: usize) -> usize {
+fn list_entry(rt: &impl Print, pack: &[u8], at: usize) -> usize {
     let U32::Is(n) = numbers::u32_at(pack, at) else {
         return pack.len();
     };
@@ -193,59 +195,106 @@ fn list_entry(pack: &[u8], at: usize) -> usize {
     }
     let length = n as usize;
     if room - 4 < length {
-        say::text(b"cut\n");
+        say::text(rt, b"cut\n");
         return pack.len();
     }
     let from = at + 4;
     let end = from + length;
-    list_stbl(&pack[from..end]);
-    say::text(b"\n");
+    list_stbl(rt, &pack[from..end]);
+    say::text(rt, b"\n");
     end
 }
 
 // No pack has more entries than bytes.
-fn list_pack(pack: &[u8]) {
+fn list_pack(rt: &impl Print, pack: &[u8]) {
     let mut at = 0;
-    let mut i = 0;
-    while i < pack.len() {
+    for _ in 0..pack.len() {
         if pack.len() <= at {
             return;
         }
-        at = list_entry(pack, at);
-        i += 1;
+        at = list_entry(rt, pack, at);
     }
+}
+
+// How many arguments the program was started with, its own name among them.
+fn arg_count(rt: &impl Env) -> usize {
+    for i in 0..usize::MAX {
+        if let Err(FillError::NotPresent) = rt.arg(i, &mut [0u8; 0]) {
+            return i;
+        }
+    }
+    usize::MAX
+}
+
+// Opens the file of that name. A name that is no UTF-8 cannot be opened.
+fn open_read(rt: &HostRuntime, name: &[u8]) -> io::Result<File> {
+    match str::from_utf8(name) {
+        Ok(path) => fs::open(rt, path),
+        Err(_) => Err(io::Error::from(ErrorKind::InvalidFilename)),
+    }
+}
+
+// Reads until the room is full, the input ends or a read fails, and tells how many bytes it put into the room.
+fn read_full(from: &mut impl Read, room: &mut [u8]) -> usize
+    ensures { result ≤ length room.new }
+{
+    let mut done = 0;
+    while done < room.len() {
+        match from.read(&mut room[done..]) {
+            Ok(0) | Err(_) => break,
+            Ok(n) => done += n,
+        }
+    }
+    done
+}
+
+// The system's words for why a call failed, without the number that stands behind them.
+fn words(why: &str) -> &str {
+    match why.split_once(" (os error ") {
+        Some((words, _)) => words,
+        None => why,
+    }
+}
+
+// Writes a line to standard error: what failed, and why.
+fn fail(rt: &HostRuntime, what: &[u8], why: &str) {
+    let err = rt.stderr();
+    say::text(&err, what);
+    say::text(&err, b": ");
+    let _ = err.println(why);
 }
 
 // Packs of up to 1 MiB: what lies behind that is not read.
-fn list_file(fd: i32) {
-    let mut buffer = [0u8; 1048576];
-    let got = io::read_full(fd, &mut buffer);
-    list_pack(&buffer[..got]);
+fn list_file(rt: &HostRuntime, file: &mut File) -> Result<(), AllocError> {
+    let mut buffer = vec![in rt.alloc(); 0u8; 1048576]?;
+    let got = read_full(file, buffer.as_mut_slice());
+    list_pack(rt, &buffer.as_slice()[..got]);
+    Ok(())
 }
 
-fn list_argument(i: usize) {
-    let mut path = io::buffer();
-    let length = os::arg(i, &mut path);
-    if os::errno() != 0 {
-        os::fail(b"argument");
-        return;
+fn list_argument(rt: &HostRuntime, i: usize) -> Result<(), AllocError> {
+    let mut path = [0u8; 4096];
+    let Ok(length) = rt.arg(i, &mut path) else {
+        fail(rt, b"argument", "File name too long");
+        return Ok(());
+    };
+    match open_read(rt, &path[..length]) {
+        Ok(mut file) => {
+            say::text(rt, &path[..length]);
+            say::text(rt, b"\n");
+            list_file(rt, &mut file)
+        }
+        Err(e) => {
+            let why = format!(in rt.alloc(); "{e}")?;
+            fail(rt, &path[..length], words(why.as_str()));
+            Ok(())
+        }
     }
-    let fd = os::open_read(&path[..length]);
-    if fd < 0 {
-        os::fail(&path[..length]);
-        return;
-    }
-    io::write_all(STDOUT_FILENO, &path[..length]);
-    say::text(b"\n");
-    list_file(fd);
-    libc::close(fd);
 }
 
-fn main() {
-    let n = os::arg_count();
-    let mut i = 1;
-    while i < n {
-        list_argument(i);
-        i += 1;
+fn main(rt: HostRuntime) -> Result<(), AllocError> {
+    for i in 1..arg_count(&rt) {
+        list_argument(&rt, i)?;
     }
+    Ok(())
 }

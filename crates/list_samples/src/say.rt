@@ -1,30 +1,29 @@
 // The words of a line.
-use libc::STDOUT_FILENO;
 
-pub(crate) fn text(s: &[u8]) {
-    io::write_all(STDOUT_FILENO, s);
+pub(crate) fn text(rt: &impl Print, s: &[u8]) {
+    let _ = rt.write_all(s);
 }
 
-pub(crate) fn number(n: u64) {
-    io::print_decimal(STDOUT_FILENO, n);
+pub(crate) fn number(rt: &impl Print, n: u64) {
+    let _ = rt.print(n);
 }
 
-pub(crate) fn next_number(n: u64) {
-    text(b"\t");
-    number(n);
+pub(crate) fn next_number(rt: &impl Print, n: u64) {
+    text(rt, b"\t");
+    number(rt, n);
 }
 
-pub(crate) fn next_signed(n: i64) {
+pub(crate) fn next_signed(rt: &impl Print, n: i64) {
     if n < 0 {
-        text(b"\t-");
-        number(absolute::of(n));
+        text(rt, b"\t-");
+        number(rt, absolute::of(n));
     } else {
-        next_number(absolute::of(n));
+        next_number(rt, absolute::of(n));
     }
 }
 
-pub(crate) fn refused(number: u32, detail: usize) {
-    text(b"refused");
-    next_number(number as u64);
-    next_number(detail as u64);
+pub(crate) fn refused(rt: &impl Print, number: u32, detail: usize) {
+    text(rt, b"refused");
+    next_number(rt, number as u64);
+    next_number(rt, detail as u64);
 }

@@ -1,2 +1,0 @@
-mod Signs
-mod Sized
