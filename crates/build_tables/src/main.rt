@@ -6,7 +6,7 @@
 // For each table there is a line, in the order in which the boxes stand in an stbl: its name and the bytes of the box as
 // digits, or `refused` with the number and the detail, or `absent` where the track has no such box; then the whole stbl,
 // with an stsd of no entry. An empty line ends the list. Words have a tab between them.
-ghost use Rattle.std.specs.Prelude.{◌≤◌, length};
+ghost use Rattle.std.specs.Prelude.{◌≡◌, ◌≤◌, length};
 
 mod say;
 mod table;
@@ -14,7 +14,6 @@ mod table;
 use numbers::{U32, U64};
 use samples::Sample;
 use signed::I32;
-use std::alloc::AllocError;
 use std::io::Read;
 
 // How many samples a list has at most, and how many bytes each.
@@ -154,10 +153,17 @@ fn read_full(from: &mut impl Read, room: &mut [u8]) -> usize
     done
 }
 
+// The room for what is read.
+fn room() -> [u8; 1048576]
+    ensures { 1048576 ≡ length result }
+{
+    [0u8; 1048576]
+}
+
 // Up to 1 MiB: what lies behind that is not read.
-fn main(rt: HostRuntime) -> Result<(), AllocError> {
-    let mut buffer = vec![in rt.alloc(); 0u8; 1048576]?;
-    let got = read_full(&mut rt.stdin(), buffer.as_mut_slice());
-    print_lists(&rt, &buffer.as_slice()[..got]);
-    Ok(())
+fn main(rt: HostRuntime) {
+    let mut space = room();
+    let buffer: &mut [u8] = &mut space;
+    let got = read_full(&mut rt.stdin(), buffer);
+    print_lists(&rt, &buffer[..got]);
 }

@@ -5,7 +5,7 @@
 // position; or the fields in their order, each entry of a table in brackets, bytes as an x and their digits, whether the
 // box is canonical (its own size and fields; its children are boxes of their own), and then `same` where the box that
 // is written is the one that was read, else `wrote` and its bytes, or `unwritten` with the number and the detail.
-ghost use Rattle.std.specs.Prelude.{◌≤◌, length};
+ghost use Rattle.std.specs.Prelude.{◌≡◌, ◌≤◌, length};
 
 mod edit;
 mod event;
@@ -18,7 +18,6 @@ mod tail;
 
 use numbers::U32;
 use packs::Item;
-use std::alloc::AllocError;
 use std::env::{Env, FillError};
 use std::fs::File;
 use std::io::{ErrorKind, Read};
@@ -149,38 +148,44 @@ fn fail(rt: &HostRuntime, what: &[u8], why: &str) {
     let _ = err.println(why);
 }
 
-// Packs of up to 1 MiB: what lies behind that is not read. A box that is written is never longer than its entry.
-fn copy_file(rt: &HostRuntime, file: &mut File) -> Result<(), AllocError> {
-    let mut buffer = vec![in rt.alloc(); 0u8; 1048576]?;
-    let mut out = vec![in rt.alloc(); 0u8; 1048576]?;
-    let got = read_full(file, buffer.as_mut_slice());
-    copy_pack(rt, &buffer.as_slice()[..got], out.as_mut_slice());
-    Ok(())
+// The room for what is read, and for what is made of it.
+fn room() -> [u8; 1048576]
+    ensures { 1048576 ≡ length result }
+{
+    [0u8; 1048576]
 }
 
-fn copy_argument(rt: &HostRuntime, i: usize) -> Result<(), AllocError> {
+// Packs of up to 1 MiB: what lies behind that is not read. A box that is written is never longer than its entry.
+fn copy_file(rt: &HostRuntime, file: &mut File) {
+    let mut space = room();
+    let buffer: &mut [u8] = &mut space;
+    let mut spare = room();
+    let out: &mut [u8] = &mut spare;
+    let got = read_full(file, buffer);
+    copy_pack(rt, &buffer[..got], out);
+}
+
+fn copy_argument(rt: &HostRuntime, i: usize) {
     let mut path = [0u8; 4096];
     let Ok(length) = rt.arg(i, &mut path) else {
         fail(rt, b"argument", "File name too long");
-        return Ok(());
+        return;
     };
     match open_read(rt, &path[..length]) {
         Ok(mut file) => {
             say::text(rt, &path[..length]);
             say::text(rt, b"\n");
-            copy_file(rt, &mut file)
+            copy_file(rt, &mut file);
         }
-        Err(e) => {
-            let why = format!(in rt.alloc(); "{e}")?;
-            fail(rt, &path[..length], words(why.as_str()));
-            Ok(())
-        }
+        Err(e) => match format!(in rt.alloc(); "{e}") {
+            Ok(why) => fail(rt, &path[..length], words(why.as_str())),
+            Err(_) => fail(rt, &path[..length], "it can not be opened"),
+        },
     }
 }
 
-fn main(rt: HostRuntime) -> Result<(), AllocError> {
+fn main(rt: HostRuntime) {
     for i in 1..arg_count(&rt) {
-        copy_argument(&rt, i)?;
+        copy_argument(&rt, i);
     }
-    Ok(())
 }

@@ -4,7 +4,7 @@
 // `trak` with that length, then a line for each getter: its name, what it is asked for besides, and the answer, or
 // `refused` with the number and the detail. Words have a tab between them; parts are an x and their digits, or, of boxes, how
 // many bytes they have.
-ghost use Rattle.std.specs.Prelude.{◌≤◌, length};
+ghost use Rattle.std.specs.Prelude.{◌≡◌, ◌≤◌, length};
 
 mod amount;
 mod place;
@@ -14,7 +14,6 @@ mod sound;
 mod video;
 
 use packs::Item;
-use std::alloc::AllocError;
 use std::env::{Env, FillError};
 use std::fs::File;
 use std::io::{ErrorKind, Read};
@@ -103,37 +102,42 @@ fn fail(rt: &HostRuntime, what: &[u8], why: &str) {
     let _ = err.println(why);
 }
 
-// Packs of up to 1 MiB: what lies behind that is not read.
-fn tell_file(rt: &HostRuntime, file: &mut File) -> Result<(), AllocError> {
-    let mut buffer = vec![in rt.alloc(); 0u8; 1048576]?;
-    let got = read_full(file, buffer.as_mut_slice());
-    tell_pack(rt, &buffer.as_slice()[..got]);
-    Ok(())
+// The room for what is read.
+fn room() -> [u8; 1048576]
+    ensures { 1048576 ≡ length result }
+{
+    [0u8; 1048576]
 }
 
-fn tell_argument(rt: &HostRuntime, i: usize) -> Result<(), AllocError> {
+// Packs of up to 1 MiB: what lies behind that is not read.
+fn tell_file(rt: &HostRuntime, file: &mut File) {
+    let mut space = room();
+    let buffer: &mut [u8] = &mut space;
+    let got = read_full(file, buffer);
+    tell_pack(rt, &buffer[..got]);
+}
+
+fn tell_argument(rt: &HostRuntime, i: usize) {
     let mut path = [0u8; 4096];
     let Ok(length) = rt.arg(i, &mut path) else {
         fail(rt, b"argument", "File name too long");
-        return Ok(());
+        return;
     };
     match open_read(rt, &path[..length]) {
         Ok(mut file) => {
             say::text(rt, &path[..length]);
             say::text(rt, b"\n");
-            tell_file(rt, &mut file)
+            tell_file(rt, &mut file);
         }
-        Err(e) => {
-            let why = format!(in rt.alloc(); "{e}")?;
-            fail(rt, &path[..length], words(why.as_str()));
-            Ok(())
-        }
+        Err(e) => match format!(in rt.alloc(); "{e}") {
+            Ok(why) => fail(rt, &path[..length], words(why.as_str())),
+            Err(_) => fail(rt, &path[..length], "it can not be opened"),
+        },
     }
 }
 
-fn main(rt: HostRuntime) -> Result<(), AllocError> {
+fn main(rt: HostRuntime) {
     for i in 1..arg_count(&rt) {
-        tell_argument(&rt, i)?;
+        tell_argument(&rt, i);
     }
-    Ok(())
 }

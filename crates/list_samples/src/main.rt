@@ -8,7 +8,7 @@
 // whether it is sync (1 or 0), and then `same` where the lookup has the same, else `other`. A lookup's line has `sample`,
 // the number, the same numbers or its refusal, and then whether the sample is sync, or that refusal. Words have a tab
 // between them.
-ghost use Rattle.std.specs.Prelude.{◌≤◌, length};
+ghost use Rattle.std.specs.Prelude.{◌≡◌, ◌≤◌, length};
 
 mod say;
 
@@ -17,7 +17,6 @@ use lookup::Synced;
 use numbers::U32;
 use samples::{Located, Sample};
 use stbl::Found;
-use std::alloc::AllocError;
 use std::env::{Env, FillError};
 use std::fs::File;
 use std::io::{ErrorKind, Read};
@@ -264,37 +263,42 @@ fn fail(rt: &HostRuntime, what: &[u8], why: &str) {
     let _ = err.println(why);
 }
 
-// Packs of up to 1 MiB: what lies behind that is not read.
-fn list_file(rt: &HostRuntime, file: &mut File) -> Result<(), AllocError> {
-    let mut buffer = vec![in rt.alloc(); 0u8; 1048576]?;
-    let got = read_full(file, buffer.as_mut_slice());
-    list_pack(rt, &buffer.as_slice()[..got]);
-    Ok(())
+// The room for what is read.
+fn room() -> [u8; 1048576]
+    ensures { 1048576 ≡ length result }
+{
+    [0u8; 1048576]
 }
 
-fn list_argument(rt: &HostRuntime, i: usize) -> Result<(), AllocError> {
+// Packs of up to 1 MiB: what lies behind that is not read.
+fn list_file(rt: &HostRuntime, file: &mut File) {
+    let mut space = room();
+    let buffer: &mut [u8] = &mut space;
+    let got = read_full(file, buffer);
+    list_pack(rt, &buffer[..got]);
+}
+
+fn list_argument(rt: &HostRuntime, i: usize) {
     let mut path = [0u8; 4096];
     let Ok(length) = rt.arg(i, &mut path) else {
         fail(rt, b"argument", "File name too long");
-        return Ok(());
+        return;
     };
     match open_read(rt, &path[..length]) {
         Ok(mut file) => {
             say::text(rt, &path[..length]);
             say::text(rt, b"\n");
-            list_file(rt, &mut file)
+            list_file(rt, &mut file);
         }
-        Err(e) => {
-            let why = format!(in rt.alloc(); "{e}")?;
-            fail(rt, &path[..length], words(why.as_str()));
-            Ok(())
-        }
+        Err(e) => match format!(in rt.alloc(); "{e}") {
+            Ok(why) => fail(rt, &path[..length], words(why.as_str())),
+            Err(_) => fail(rt, &path[..length], "it can not be opened"),
+        },
     }
 }
 
-fn main(rt: HostRuntime) -> Result<(), AllocError> {
+fn main(rt: HostRuntime) {
     for i in 1..arg_count(&rt) {
-        list_argument(&rt, i)?;
+        list_argument(&rt, i);
     }
-    Ok(())
 }
