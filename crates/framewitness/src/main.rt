@@ -30,8 +30,10 @@ enum Task {
     List,
 }
 
-// Descriptor 3, where it is open.
+// Descriptor 3, and what the system says of it.
 const STATUS: &str = "/dev/fd/3";
+
+const STATUS_INFO: &str = "/proc/self/fdinfo/3";
 
 // What a call comes to. The larger one wins.
 const CLEAN: u8 = 0;
@@ -219,7 +221,35 @@ fn answer<R: Files + Env + Print + Eprint>(rt: &R, room: &mut [u8]) -> u8 {
     }
 }
 
+// Whether what the system says of a descriptor has it open for writing. The last octal digit of its flags says how it was
+// opened: 0 for reading, 1 for writing and 2 for both, with 4 more for a flag of another kind.
+fn is_open_for_writing(info: &str) -> bool {
+    let Some((_, flags)) = info.split_once("flags:") else {
+        return false;
+    };
+    let Some((flags, _)) = flags.split_once("\n") else {
+        return false;
+    };
+    matches!(flags.as_bytes().last(), Some(b'1' | b'2' | b'5' | b'6'))
+}
+
+// A file that descriptor 3 has open for reading alone is not written.
+fn can_be_told(rt: &impl Files) -> bool {
+    let Ok(mut file) = fs::open(rt, STATUS_INFO) else {
+        return false;
+    };
+    let mut info = [0u8; 256];
+    let got = read_full(&mut file, &mut info);
+    match str::from_utf8(&info[..got]) {
+        Ok(info) => is_open_for_writing(info),
+        Err(_) => false,
+    }
+}
+
 fn tell(rt: &impl Files, status: u8) -> bool {
+    if !can_be_told(rt) {
+        return false;
+    }
     let Ok(mut file) = OpenOptions::new().append(true).open(rt, STATUS) else {
         return false;
     };

@@ -4,8 +4,9 @@
 ghost use Rattle.std.specs.Prelude.{◌≤◌, length};
 
 use std::env::{Env, FillError};
-use std::fs;
-use std::io::Read;
+use std::fs::File;
+use std::io::{ErrorKind, Read};
+use std::{fs, io};
 use tree::Scanned;
 
 // What can not be written is left out.
@@ -135,29 +136,29 @@ fn fail(rt: &HostRuntime, what: &[u8], why: &str) {
     let _ = errors.println(why);
 }
 
-fn print_argument(rt: &HostRuntime, i: usize) {
-    let mut name = [0u8; 4096];
-    match rt.arg(i, &mut name) {
-        Ok(length) => print_named(rt, &name[..length]),
-        Err(_) => fail(rt, b"argument", "File name too long"),
+// Opens the file of that name. A name that is no UTF-8 can not be opened.
+fn open_read(rt: &HostRuntime, name: &[u8]) -> io::Result<File> {
+    match str::from_utf8(name) {
+        Ok(path) => fs::open(rt, path),
+        Err(_) => Err(io::Error::from(ErrorKind::InvalidFilename)),
     }
 }
 
-// A name that is no UTF-8 can not be opened.
-fn print_named(rt: &HostRuntime, name: &[u8]) {
-    let Ok(path) = str::from_utf8(name) else {
-        fail(rt, name, "the name is no UTF-8");
+fn print_argument(rt: &HostRuntime, i: usize) {
+    let mut path = [0u8; 4096];
+    let Ok(length) = rt.arg(i, &mut path) else {
+        fail(rt, b"argument", "File name too long");
         return;
     };
-    match fs::open(rt, path) {
+    match open_read(rt, &path[..length]) {
         Ok(mut file) => {
-            text(rt, name);
+            text(rt, &path[..length]);
             text(rt, b"\n");
             print_file(rt, &mut file);
         }
         Err(e) => match format!(in rt.alloc(); "{e}") {
-            Ok(why) => fail(rt, name, words(why.as_str())),
-            Err(_) => fail(rt, name, "it can not be opened"),
+            Ok(why) => fail(rt, &path[..length], words(why.as_str())),
+            Err(_) => fail(rt, &path[..length], "it can not be opened"),
         },
     }
 }
