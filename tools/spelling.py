@@ -26,8 +26,6 @@ DASHED = {
     "all_held": ("crates/sweeps/proofs/Bare.antt",),
     "first_found": ("crates/verdicts/proofs/Order.antt",),
 }
-
-
 # two definitions are named as a box, whose letters a sentence writes as they are
 BOXES = {"avcC": "avcc", "vpcC": "vpcc"}
 SENTENCE = {".antt": "--", ".rt": "//", ".edit": "#", ".md": ""}

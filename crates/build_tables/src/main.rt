@@ -139,18 +139,21 @@ fn print_lists(rt: &impl Print, lists: &[u8]) {
     }
 }
 
-// Reads until the room is full, the input ends or a read fails, and tells how many bytes it put into the room.
+// How many bytes were read, until the room is full, the input ends or a read fails.
 fn read_full(from: &mut impl Read, room: &mut [u8]) -> usize
     ensures { result ≤ length room.new }
 {
     let mut done = 0;
-    while done < room.len() {
+    for _ in 0..u64::MAX {
+        if done >= room.len() {
+            break;
+        }
         match from.read(&mut room[done..]) {
             Ok(0) | Err(_) => break,
             Ok(n) => done += n,
         }
     }
-    done
+    done.min(room.len())
 }
 
 // The room for what is read.

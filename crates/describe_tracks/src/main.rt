@@ -54,7 +54,7 @@ fn tell_pack(rt: &impl Print, pack: &[u8]) {
     }
 }
 
-// How many arguments the program was started with, its own name among them.
+// How many arguments there are, the program's own name among them.
 fn arg_count(rt: &impl Env) -> usize {
     for i in 0..usize::MAX {
         if let Err(FillError::NotPresent) = rt.arg(i, &mut [0u8; 0]) {
@@ -64,7 +64,7 @@ fn arg_count(rt: &impl Env) -> usize {
     usize::MAX
 }
 
-// Opens the file of that name. A name that is no UTF-8 cannot be opened.
+// Opens the file of that name. A name that is no UTF-8 can not be opened.
 fn open_read(rt: &HostRuntime, name: &[u8]) -> io::Result<File> {
     match str::from_utf8(name) {
         Ok(path) => fs::open(rt, path),
@@ -72,18 +72,21 @@ fn open_read(rt: &HostRuntime, name: &[u8]) -> io::Result<File> {
     }
 }
 
-// Reads until the room is full, the input ends or a read fails, and tells how many bytes it put into the room.
+// How many bytes were read, until the room is full, the input ends or a read fails.
 fn read_full(from: &mut impl Read, room: &mut [u8]) -> usize
     ensures { result ≤ length room.new }
 {
     let mut done = 0;
-    while done < room.len() {
+    for _ in 0..u64::MAX {
+        if done >= room.len() {
+            break;
+        }
         match from.read(&mut room[done..]) {
             Ok(0) | Err(_) => break,
             Ok(n) => done += n,
         }
     }
-    done
+    done.min(room.len())
 }
 
 // The system's words for why a call failed, without the number that stands behind them.
@@ -94,7 +97,7 @@ fn words(why: &str) -> &str {
     }
 }
 
-// Writes a line to standard error: what failed, and why.
+// A line of standard error: what failed, and why.
 fn fail(rt: &HostRuntime, what: &[u8], why: &str) {
     let err = rt.stderr();
     say::text(&err, what);

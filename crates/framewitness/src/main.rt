@@ -85,8 +85,8 @@ fn tell_samples(rt: &(impl Print + Eprint), name: &[u8], file: &[u8], audited: A
     }
 }
 
-// How many bytes were read, until the room is full, the file ends or a read fails.
-fn read_full(file: &mut impl Read, room: &mut [u8]) -> usize
+// How many bytes were read, until the room is full, the input ends or a read fails.
+fn read_full(from: &mut impl Read, room: &mut [u8]) -> usize
     ensures { result ≤ length room.new }
 {
     let mut done = 0;
@@ -94,10 +94,9 @@ fn read_full(file: &mut impl Read, room: &mut [u8]) -> usize
         if done >= room.len() {
             break;
         }
-        match file.read(&mut room[done..]) {
-            Ok(0) => break,
+        match from.read(&mut room[done..]) {
+            Ok(0) | Err(_) => break,
             Ok(n) => done += n,
-            Err(_) => break,
         }
     }
     done.min(room.len())
@@ -173,17 +172,10 @@ fn audit_files<R: Files + Env + Print + Eprint>(
     status
 }
 
-fn is_there(rt: &impl Env, i: usize) -> bool {
-    match rt.arg(i, &mut [0u8; 0]) {
-        Err(FillError::NotPresent) => false,
-        _ => true,
-    }
-}
-
 // How many arguments there are, the program's own name among them.
 fn arg_count(rt: &impl Env) -> usize {
     for i in 0..usize::MAX {
-        if !is_there(rt, i) {
+        if let Err(FillError::NotPresent) = rt.arg(i, &mut [0u8; 0]) {
             return i;
         }
     }

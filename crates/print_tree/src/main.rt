@@ -105,9 +105,8 @@ fn read_full(from: &mut impl Read, room: &mut [u8]) -> usize
             break;
         }
         match from.read(&mut room[done..]) {
-            Ok(0) => break,
+            Ok(0) | Err(_) => break,
             Ok(n) => done += n,
-            Err(_) => break,
         }
     }
     done.min(room.len())
@@ -163,17 +162,10 @@ fn print_argument(rt: &HostRuntime, i: usize) {
     }
 }
 
-fn is_there(rt: &impl Env, i: usize) -> bool {
-    match rt.arg(i, &mut [0u8; 0]) {
-        Err(FillError::NotPresent) => false,
-        _ => true,
-    }
-}
-
 // How many arguments there are, the program's own name among them.
 fn arg_count(rt: &impl Env) -> usize {
     for i in 0..usize::MAX {
-        if !is_there(rt, i) {
+        if let Err(FillError::NotPresent) = rt.arg(i, &mut [0u8; 0]) {
             return i;
         }
     }

@@ -100,9 +100,8 @@ fn read_full(from: &mut impl Read, room: &mut [u8]) -> usize
             break;
         }
         match from.read(&mut room[done..]) {
-            Ok(0) => break,
+            Ok(0) | Err(_) => break,
             Ok(n) => done += n,
-            Err(_) => break,
         }
     }
     done.min(room.len())
