@@ -1,3 +1,2 @@
-mod Signs
 mod Vectors
 mod Unique

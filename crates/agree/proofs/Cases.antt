@@ -1,4 +1,5 @@
 -- One law for each return, over plain variables. Assumes nothing.
+use Rattle.std.specs.Prelude.{Option, Some}
 use Prim.Native.Nat.{ℕ, ◌+◌, ◌*◌, ◌≤◌, ◌<◌}
 use mathlib.Core.Path.{◌≡◌, refl, sym, ap, ◌∙◌}
 use mathlib.Core.List.{List}
@@ -11,8 +12,6 @@ use Rattle.numbers.specs.Field.{or_zero}
 use Rattle.tables.specs.Tables.{sum, total, values_of, pairs, group_at, number_at, syncs}
 use Rattle.tables.specs.Rows.{pair_rows, group_rows, rows_of}
 use Rattle.tables.specs.declared.Table.{Table}
-use Rattle.tables.specs.declared.Optional.{Optional}
-use Rattle.tables.specs.declared.Optional.TheVariants.{At}
 use Rattle.tables.specs.declared.Rows.{Rows}
 use Rattle.tables.specs.declared.Track.{Track}
 use Rattle.tables.proofs.Lists.{list-cons, list-nil, list_same}
@@ -45,9 +44,9 @@ module _ (f : List ℕ) (t : Table) (c n : ℕ) (w : Rows) (ew : w ≡ group_row
   pub chunks-all : (q : ℕ) → r ≡ spot.Few q → eqb q n ≡ chunks_count f t c n
   chunks-all q e = ap (λ (x : ℕ). eqb x n) (group-few f t c w ew n r er q e).1
 
-module _ (f : List ℕ) (o : Optional) (n : ℕ) where
-  pub shifts-there : (t : Table) (b : Bool) → o ≡ At t → b ≡ times_count f t n → b ≡ shifts_count f o n
-  shifts-there t b e h = h ∙ sym (ap (λ (x : Optional). shifts_count f x n) e)
+module _ (f : List ℕ) (o : Option Table) (n : ℕ) where
+  pub shifts-there : (t : Table) (b : Bool) → o ≡ Some t → b ≡ times_count f t n → b ≡ shifts_count f o n
+  shifts-there t b e h = h ∙ sym (ap (λ (x : Option Table). shifts_count f x n) e)
 
 -- NUMBERS PAST THE END
 
@@ -67,12 +66,12 @@ module _ (f : List ℕ) (t : Table) (w n i : ℕ) (g : within n (drop i (heads f
     pub not-past : x ≤ n → within n (drop (i + 1) (heads f t w)) ≡ within n (heads f t w)
     not-past q = sym (here ∙ ap (λ (b : Bool). b && within n (drop (i + 1) (heads f t w))) (le-leb x n q)) ∙ g
 
-module _ (f : List ℕ) (o : Optional) (n : ℕ) where
-  pub syncs-there : (t : Table) (b : Bool) → o ≡ At t → b ≡ within n (heads f t 4) → b ≡ syncs_within n (syncs f o)
+module _ (f : List ℕ) (o : Option Table) (n : ℕ) where
+  pub syncs-there : (t : Table) (b : Bool) → o ≡ Some t → b ≡ within n (heads f t 4) → b ≡ syncs_within n (syncs f o)
   unfolding number_at
   syncs-there t b e h =
       h ∙ ap (within n) (list_same (λ k. or_zero 4 f (t.at + k * 4)) (number_at f t.at) t.count 0 (λ k. refl))
-      ∙ sym (ap (λ (x : Optional). syncs_within n (syncs f x)) e)
+      ∙ sym (ap (λ (x : Option Table). syncs_within n (syncs f x)) e)
 
 -- ALL OF THEM
 

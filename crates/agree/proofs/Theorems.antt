@@ -1,5 +1,6 @@
 -- What it says of a track that its tables agree: it has as many samples as stsz counts, each has its own composition
 -- offset where there is a ctts, and each number of stss is a sample's. Assumes nothing.
+use Rattle.std.specs.Prelude.{Option, Some}
 use Prim.Native.Nat.{ℕ, ◌≤◌}
 use mathlib.Core.Path.{◌≡◌, refl, sym, ap, ◌∙◌}
 use mathlib.Core.List.{List, [], ◌∷◌}
@@ -11,8 +12,6 @@ use borrow.Author.Tests.{eqb-true, leb-true}
 use Rattle.tables.specs.Tables.{sum, total, values_of, pairs, groups, shifts, numbers, syncs}
 use Rattle.tables.specs.Samples.{samples_of}
 use Rattle.tables.specs.declared.Table.{Table}
-use Rattle.tables.specs.declared.Optional.{Optional}
-use Rattle.tables.specs.declared.Optional.TheVariants.{At}
 use Rattle.tables.specs.declared.Track.{Track}
 use Rattle.tables.proofs.Lengths.{length-values, how-many}
 use Rattle.agree.specs.Agree.{times_count, shifts_count, chunks_count, within, first_chunks, syncs_within, agree_of}
@@ -65,14 +64,14 @@ module _ (f : List ℕ) (t : Track) where
     as_many = omega (arith, how-many f t, agreeing.timed, agreeing.placed)
 
     -- no sample is without its own composition offset, and no offset without a sample
-    pub each-shifted : (b : Table) → t.ctts ≡ At b → length (shifts f t.ctts) ≡ length (samples_of f t)
+    pub each-shifted : (b : Table) → t.ctts ≡ Some b → length (shifts f t.ctts) ≡ length (samples_of f t)
     each-shifted b e =
-        let k : shifts_count f (At b) t.stsz.count ≡ true = sym (ap (λ (o : Optional). shifts_count f o t.stsz.count) e) ∙ agreeing.shifted in
-        let m : length (shifts f t.ctts) ≡ length (values_of (pairs f b)) = ap (λ (o : Optional). length (shifts f o)) e in
+        let k : shifts_count f (Some b) t.stsz.count ≡ true = sym (ap (λ (o : Option Table). shifts_count f o t.stsz.count) e) ∙ agreeing.shifted in
+        let m : length (shifts f t.ctts) ≡ length (values_of (pairs f b)) = ap (λ (o : Option Table). length (shifts f o)) e in
         omega (arith, m, length-values (pairs f b), eqb-true (total (pairs f b)) t.stsz.count k, as_many)
 
     -- every number of stss is one of a sample
-    pub each-sync : (b : Table) → t.stss ≡ At b → EachWithin (length (samples_of f t)) (numbers f b)
+    pub each-sync : (b : Table) → t.stss ≡ Some b → EachWithin (length (samples_of f t)) (numbers f b)
     each-sync b e =
         each_within (length (samples_of f t)) (numbers f b)
-        (ap (λ (n : ℕ). within n (numbers f b)) as_many ∙ sym (ap (λ (o : Optional). syncs_within t.stsz.count (syncs f o)) e) ∙ agreeing.synced)
+        (ap (λ (n : ℕ). within n (numbers f b)) as_many ∙ sym (ap (λ (o : Option Table). syncs_within t.stsz.count (syncs f o)) e) ∙ agreeing.synced)

@@ -1,11 +1,9 @@
 -- Whether the tables of a track agree (ISO/IEC 14496-12: 8.6.1.2 stts, 8.6.1.3 ctts, 8.6.2 stss, 8.7.3 stsz, 8.7.4
 -- stsc): where they do not, the audit has the finding F1. Sums of counts, in ℕ, without limit. Assumes nothing.
-use Rattle.std.specs.Prelude.{ℕ, ◌+◌, ◌*◌, List, [], ◌∷◌, Bool, true, ◌&&◌, take, eqb, leb}
+use Rattle.std.specs.Prelude.{ℕ, ◌+◌, ◌*◌, List, [], ◌∷◌, Bool, true, ◌&&◌, take, eqb, leb, Option, Some, None}
 use Rattle.numbers.specs.Field.{or_zero}
 use Rattle.tables.specs.Tables.{listed, sum, total, values_of, pairs, group_at, groups, Syncs, every, those, syncs}
 use Rattle.tables.specs.declared.Table.{Table}
-use Rattle.tables.specs.declared.Optional.{Optional}
-use Rattle.tables.specs.declared.Optional.TheVariants.{Absent, At}
 use Rattle.tables.specs.declared.Track.{Track}
 
 -- COUNTS
@@ -15,9 +13,9 @@ abbrev pub times_count : List ℕ → Table → ℕ → Bool
 times_count f t n = eqb (total (pairs f t)) n
 
 -- so do ctts's, where there is one
-abbrev pub shifts_count : List ℕ → Optional → ℕ → Bool
-shifts_count f Absent n = true
-shifts_count f (At t) n = times_count f t n
+abbrev pub shifts_count : List ℕ → Option Table → ℕ → Bool
+shifts_count f None n = true
+shifts_count f (Some t) n = times_count f t n
 
 -- c chunks have n samples in all, by stsc: an empty one has none (A33)
 abbrev pub chunks_count : List ℕ → Table → ℕ → ℕ → Bool

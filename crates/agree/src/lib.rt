@@ -1,4 +1,4 @@
-#![tactic(auto)]
+#![tactic(auto, unfolding(numbers::specs::Field::when, numbers::specs::Field::field))]
 // Whether the tables of a track agree on how many samples there are, and have no number past the last sample or chunk.
 // An entry is visited once, one of stsc twice; a size never. Nothing is refused here.
 ghost use Rattle.std.specs.Prelude.{◌≡◌};
@@ -6,7 +6,7 @@ ghost use Rattle.tables.specs.Tables.{syncs};
 ghost use Rattle.agree.specs.Agree.{times_count, shifts_count, chunks_count, within, heads, syncs_within, agree_of};
 
 use seek::{Spot, Value};
-use tables::{Optional, Table, Track};
+use tables::{Table, Track};
 
 // The bytes of an entry of stsc, and of one of stss.
 const GROUP: u32 = 12;
@@ -24,10 +24,10 @@ fn times_count(file: &[u8], stts: Table, n: u32) -> bool
 }
 
 // Whether ctts does, where there is one.
-fn shifts_count(file: &[u8], ctts: Optional, n: u32) -> bool
+fn shifts_count(file: &[u8], ctts: Option<Table>, n: u32) -> bool
     ensures { result ≡ shifts_count file.now ctts n }
 {
-    let Optional::At(t) = ctts else {
+    let Some(t) = ctts else {
         return true;
     };
     times_count(file, t, n)
@@ -62,10 +62,10 @@ fn heads_within(file: &[u8], t: Table, wide: u32, most: u32) -> bool
 }
 
 // Whether stss lists no number above `most`.
-fn syncs_within(file: &[u8], stss: Optional, most: u32) -> bool
+fn syncs_within(file: &[u8], stss: Option<Table>, most: u32) -> bool
     ensures { result ≡ syncs_within most (syncs file.now stss) }
 {
-    let Optional::At(t) = stss else {
+    let Some(t) = stss else {
         return true;
     };
     heads_within(file, t, NUMBER, most)

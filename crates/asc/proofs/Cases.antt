@@ -1,4 +1,5 @@
 -- The ways of a field of bits, over plain variables. Assumes nothing.
+use Rattle.std.specs.Prelude.{Result, Ok, Err}
 use mathlib.Core.Path.{◌≡◌, refl, sym, ap, ap₂, ◌∙◌}
 use mathlib.Core.List.{List}
 use mathlib.Core.Bool.{true, false}
@@ -11,12 +12,9 @@ use lib.Dec.{eqb, leb, ltb}
 use borrow.Author.Tests.{leb-true, leb-false, ltb-true, ltb-false, eqb-true, eqb-false}
 use Rattle.numbers.specs.Number.{bytes}
 use Rattle.put.specs.Put.{wrote, placed, put_of}
-use Rattle.put.specs.declared.Put.{Put}
-use Rattle.put.specs.declared.Put.TheVariants as put
-use Rattle.numbers.specs.Field.{refusal, when, widest}
+use Rattle.numbers.specs.Field.{when, widest}
+use Rattle.numbers.specs.declared.Refusal.TheVariants as refusal
 use Rattle.numbers.specs.declared.Refusal.{Refusal}
-use Rattle.numbers.specs.declared.U32.{U32}
-use Rattle.numbers.specs.declared.U32.TheVariants as u32
 use Rattle.numbers.proofs.Chain.{way, is_lt, not-lt, is_le, not-le, is_eq, is_ne, by-true}
 use Rattle.asc.specs.Config.{bit_of, bits_of, bit_field, has_form, type_width, type_number, rate_width, rate_number, size, field_bytes}
 
@@ -59,40 +57,40 @@ module _ (n : ℕ) (s : List ℕ) (i : ℕ) where
   unfolding bit_field
   whole refused go x v h e q = is_le _ _ x (i + n) (8 * length s) h (q ∙ ap go e)
 
-  pub ends : {A : Type 0} (refused : Refusal → A) (go : ℕ → A) (x : A) → 8 * length s < i + n → x ≡ refused (refusal 1 (length s)) → x ≡ bit_field refused n s i go
+  pub ends : {A : Type 0} (refused : Refusal → A) (go : ℕ → A) (x : A) → 8 * length s < i + n → x ≡ refused (refusal.Cut (length s)) → x ≡ bit_field refused n s i go
   unfolding bit_field
   ends refused go x h q = not-le _ _ x (i + n) (8 * length s) h q
 
   -- by which way a field was gone
   pub field-way : {A : Type 0} (refused : Refusal → A) (go : ℕ → A) (z : A) → bit_field refused n s i go ≡ z →
-      ((i + n ≤ 8 * length s) × (go (bits_of n s i) ≡ z)) ⊎ ((8 * length s < i + n) × (refused (refusal 1 (length s)) ≡ z))
+      ((i + n ≤ 8 * length s) × (go (bits_of n s i) ≡ z)) ⊎ ((8 * length s < i + n) × (refused (refusal.Cut (length s)) ≡ z))
   unfolding bit_field
   field-way refused go z e =
       ⊎_elim (λ y. inl (leb-true (i + n) (8 * length s) y.0, y.1)) (λ y. inr (leb-false (i + n) (8 * length s) y.0, y.1))
-      (way (leb (i + n) (8 * length s)) (go (bits_of n s i)) (refused (refusal 1 (length s))) z e)
+      (way (leb (i + n) (8 * length s)) (go (bits_of n s i)) (refused (refusal.Cut (length s))) z e)
 
-  module _ (r : U32) (e : r ≡ bit_field u32.Refused n s i u32.Is) where
+  module _ (r : Result ℕ Refusal) (e : r ≡ bit_field Err n s i Ok) where
     -- it was read, so it was there
-    pub there : (v : ℕ) → r ≡ u32.Is v → (i + n ≤ 8 * length s) × (v ≡ bits_of n s i) × (v < 2 ^ n)
+    pub there : (v : ℕ) → r ≡ Ok v → (i + n ≤ 8 * length s) × (v ≡ bits_of n s i) × (v < 2 ^ n)
     there v f =
         ⊎_elim (λ y. let q : v ≡ bits_of n s i = cc (y.1, f) in (y.0, q, omega (arith, q, bits_below n s i)))
         (λ y. let z : ◌≡◌ {A = ℕ} 0 1 = cc (y.1, f) in absurd (omega arith))
-        (field-way u32.Refused u32.Is r (sym e))
+        (field-way Err Ok r (sym e))
 
-    was-cut : (q : Refusal) → r ≡ u32.Refused q → (8 * length s < i + n) × (q ≡ refusal 1 (length s))
+    was-cut : (q : Refusal) → r ≡ Err q → (8 * length s < i + n) × (q ≡ refusal.Cut (length s))
     was-cut q f =
         ⊎_elim (λ y. let z : ◌≡◌ {A = ℕ} 0 1 = cc (y.1, f) in absurd (omega arith))
-        (λ y. let o : q ≡ refusal 1 (length s) = cc (y.1, f) in (y.0, o))
-        (field-way u32.Refused u32.Is r (sym e))
+        (λ y. let o : q ≡ refusal.Cut (length s) = cc (y.1, f) in (y.0, o))
+        (field-way Err Ok r (sym e))
 
     module _ {A : Type 0} (away : Refusal → A) (go : ℕ → A) (x : A) where
-      pub has : (v : ℕ) → r ≡ u32.Is v → x ≡ go v → x ≡ bit_field away n s i go
+      pub has : (v : ℕ) → r ≡ Ok v → x ≡ go v → x ≡ bit_field away n s i go
       has v f q = whole away go x v (there v f).0 (there v f).1 q
 
-      pub lacks : (q : Refusal) → r ≡ u32.Refused q → x ≡ away (refusal 1 (length s)) → x ≡ bit_field away n s i go
+      pub lacks : (q : Refusal) → r ≡ Err q → x ≡ away (refusal.Cut (length s)) → x ≡ bit_field away n s i go
       lacks q f o = ends away go x (was-cut q f).0 o
 
-      pub has-not : (q : Refusal) → r ≡ u32.Refused q → x ≡ away q → x ≡ bit_field away n s i go
+      pub has-not : (q : Refusal) → r ≡ Err q → x ≡ away q → x ≡ bit_field away n s i go
       has-not q f o = ends away go x (was-cut q f).0 (o ∙ ap away (was-cut q f).1)
 
 -- FORMS
@@ -159,16 +157,16 @@ module _ (t f r c tw tn fw fn : ℕ) (a : (type_width t ≡ tw) × (type_number 
       ∙ ap₂ (λ (x y : ℕ). bytes (size_by tw fw) (shifted_by tw x fw y c)) a.1 b.1
 
   -- one number of all fields is written
-  pub as_one : (w n : ℕ) → w ≡ size_by tw fw → n ≡ shifted_by tw tn fw fn c → n < 256 ^ w → w ≤ 8 → (buf after : List ℕ) (p : Put) → has_form t f r c ≡ true →
-      wrote p after ≡ put_of w n 0 buf → wrote p after ≡ when (has_form t f r c) (placed (field_bytes t f r c) (size t f) 0 buf) (wrote (put.Refused (refusal 13 0)) buf)
+  pub as_one : (w n : ℕ) → w ≡ size_by tw fw → n ≡ shifted_by tw tn fw fn c → n < 256 ^ w → w ≤ 8 → (buf after : List ℕ) (p : Result ℕ Refusal) → has_form t f r c ≡ true →
+      wrote p after ≡ put_of w n 0 buf → wrote p after ≡ when (has_form t f r c) (placed (field_bytes t f r c) (size t f) 0 buf) (wrote (Err refusal.Unwritable) buf)
   as_one w n d e g l buf after p h q =
       by-true _ _ _ (has_form t f r c) h
       (q ∙ sym (is_le _ _ _ w widest l (is_lt _ _ _ n (256 ^ w) g refl))
       ∙ ap₂ (λ (x : List ℕ) (k : ℕ). placed x k 0 buf) (ap₂ (λ (x y : ℕ). bytes x y) d e ∙ sym bytes-by) (d ∙ sym size-by))
 
-module _ (t f r c : ℕ) (buf after : List ℕ) (p : Put) (h : has_form t f r c ≡ true) where
+module _ (t f r c : ℕ) (buf after : List ℕ) (p : Result ℕ Refusal) (h : has_form t f r c ≡ true) where
   abbrev pub Written : Type 0
-  Written = wrote p after ≡ when (has_form t f r c) (placed (field_bytes t f r c) (size t f) 0 buf) (wrote (put.Refused (refusal 13 0)) buf)
+  Written = wrote p after ≡ when (has_form t f r c) (placed (field_bytes t f r c) (size t f) 0 buf) (wrote (Err refusal.Unwritable) buf)
 
   its-form : Formed t f r c
   its-form = formed t f r c h

@@ -1,5 +1,6 @@
 -- What is written reads back the same, and what was read from a canonical form is written with its own bytes. A field of
 -- bits is a part of the number that the bytes make; each form has its own row of parts. Assumes nothing.
+use Rattle.std.specs.Prelude.{Ok, Err}
 use mathlib.Core.Path.{◌≡◌, refl, sym, ap, ap₂, ◌∙◌}
 use mathlib.Core.List.{List, [], ◌++◌}
 use mathlib.Core.Bool.{Bool, true, false}
@@ -19,10 +20,8 @@ use Rattle.numbers.proofs.Laws as numbers-laws
 use Rattle.numbers.proofs.Chain.{way, is_eq, is_ne, not-lt, is_le, by-true}
 use Rattle.put.specs.Put.{wrote}
 use Rattle.put.proofs.Placed.{Placed, placed-done}
-use Rattle.put.specs.declared.Put.TheVariants as put
 use Rattle.asc.specs.Config.{bit_of, bits_of, config, channels_of, rate_of, config_of, has_form, width, size, spare, field_bytes, size_for, config_bytes, config_in, canonical}
 use Rattle.asc.specs.declared.Config.{Config}
-use Rattle.asc.specs.declared.Found.TheVariants.{Is, Refused}
 use Rattle.asc.proofs.Cases.{pow_pos, bits_below, whole, field-way, Formed, formed, short-type, long-type, own-rate, listed-rate, size_by, shifted_by, size-by, bytes-by}
 
 -- BITS OF A NUMBER
@@ -130,7 +129,7 @@ module _ (w n : ℕ) (rest : List ℕ) (h : n < 256 ^ w) where
 
 module _ (t f r c : ℕ) (h : Formed t f r c) (rest : List ℕ) where
   -- a type of 5 bits and a listed frequency: 2 bytes
-  reads-2 : t < 32 → (f ≡ 15 → ⊥) → r ≡ 0 → config_of (bytes 2 (shifted_by 5 t 4 f c) ++ rest) ≡ Is (config t f r c)
+  reads-2 : t < 32 → (f ≡ 15 → ⊥) → r ≡ 0 → config_of (bytes 2 (shifted_by 5 t 4 f c) ++ rest) ≡ Ok (config t f r c)
   reads-2 a b z =
       let n = ((t * 2 ^ 4 + f) * 2 ^ 4 + c) * 2 ^ 3 in
       let s = bytes 2 n ++ rest in
@@ -139,12 +138,12 @@ module _ (t f r c : ℕ) (h : Formed t f r c) (rest : List ℕ) where
       let u : bits_of 5 s 0 ≡ t = part 2 n rest l 5 0 11 refl ∙ omega (arith, a, h.index-most, h.channels-most) in
       let v : bits_of 4 s 5 ≡ f = part 2 n rest l 4 5 7 refl ∙ omega (arith, a, h.index-most, h.channels-most) in
       let x : bits_of 4 s 9 ≡ c = part 2 n rest l 4 9 3 refl ∙ omega (arith, a, h.index-most, h.channels-most) in
-      sym (whole 5 s 0 Refused _ _ t (omega (arith, long)) (sym u) (is_ne _ _ _ t 31 h.no-escape
-      (whole 4 s 5 Refused _ _ f (omega (arith, long)) (sym v) (is_ne _ _ _ f 15 b
-      (whole 4 s 9 Refused _ _ c (omega (arith, long)) (sym x) (ap (λ k. Is (config t f k c)) z))))))
+      sym (whole 5 s 0 Err _ _ t (omega (arith, long)) (sym u) (is_ne _ _ _ t 31 h.no-escape
+      (whole 4 s 5 Err _ _ f (omega (arith, long)) (sym v) (is_ne _ _ _ f 15 b
+      (whole 4 s 9 Err _ _ c (omega (arith, long)) (sym x) (ap (λ k. Ok (config t f k c)) z))))))
 
   -- a type of 5 bits and a frequency of its own: 5 bytes
-  reads-5 : t < 32 → f ≡ 15 → r < 2 ^ 24 → config_of (bytes 5 (shifted_by 5 t 28 (15 * 2 ^ 24 + r) c) ++ rest) ≡ Is (config t f r c)
+  reads-5 : t < 32 → f ≡ 15 → r < 2 ^ 24 → config_of (bytes 5 (shifted_by 5 t 28 (15 * 2 ^ 24 + r) c) ++ rest) ≡ Ok (config t f r c)
   reads-5 a b z =
       let n = ((t * 2 ^ 28 + (15 * 2 ^ 24 + r)) * 2 ^ 4 + c) * 2 ^ 3 in
       let s = bytes 5 n ++ rest in
@@ -154,13 +153,13 @@ module _ (t f r c : ℕ) (h : Formed t f r c) (rest : List ℕ) where
       let v : bits_of 4 s 5 ≡ 15 = part 5 n rest l 4 5 31 refl ∙ omega (arith, a, z, h.channels-most) in
       let y : bits_of 24 s 9 ≡ r = part 5 n rest l 24 9 7 refl ∙ omega (arith, a, z, h.channels-most) in
       let x : bits_of 4 s 33 ≡ c = part 5 n rest l 4 33 3 refl ∙ omega (arith, a, z, h.channels-most) in
-      sym (whole 5 s 0 Refused _ _ t (omega (arith, long)) (sym u) (is_ne _ _ _ t 31 h.no-escape
-      (whole 4 s 5 Refused _ _ 15 (omega (arith, long)) (sym v) (is_eq _ _ _ 15 15 refl
-      (whole 24 s 9 Refused _ _ r (omega (arith, long)) (sym y)
-      (whole 4 s 33 Refused _ _ c (omega (arith, long)) (sym x) (ap (λ k. Is (config t k r c)) b)))))))
+      sym (whole 5 s 0 Err _ _ t (omega (arith, long)) (sym u) (is_ne _ _ _ t 31 h.no-escape
+      (whole 4 s 5 Err _ _ 15 (omega (arith, long)) (sym v) (is_eq _ _ _ 15 15 refl
+      (whole 24 s 9 Err _ _ r (omega (arith, long)) (sym y)
+      (whole 4 s 33 Err _ _ c (omega (arith, long)) (sym x) (ap (λ k. Ok (config t k r c)) b)))))))
 
   -- an escape and a listed frequency: 3 bytes
-  reads-3 : 32 ≤ t → (f ≡ 15 → ⊥) → r ≡ 0 → config_of (bytes 3 (shifted_by 11 (31 * 2 ^ 6 + (t - 32)) 4 f c) ++ rest) ≡ Is (config t f r c)
+  reads-3 : 32 ≤ t → (f ≡ 15 → ⊥) → r ≡ 0 → config_of (bytes 3 (shifted_by 11 (31 * 2 ^ 6 + (t - 32)) 4 f c) ++ rest) ≡ Ok (config t f r c)
   reads-3 a b z =
       let n = (((31 * 2 ^ 6 + (t - 32)) * 2 ^ 4 + f) * 2 ^ 4 + c) * 2 ^ 5 in
       let s = bytes 3 n ++ rest in
@@ -171,13 +170,13 @@ module _ (t f r c : ℕ) (h : Formed t f r c) (rest : List ℕ) where
       let v : bits_of 4 s 11 ≡ f = part 3 n rest l 4 11 9 refl ∙ omega (arith, h.type-most, h.index-most, h.channels-most) in
       let x : bits_of 4 s 15 ≡ c = part 3 n rest l 4 15 5 refl ∙ omega (arith, h.type-most, h.index-most, h.channels-most) in
       let o : t ≡ 32 + (t - 32) = omega (arith, a) in
-      sym (whole 5 s 0 Refused _ _ 31 (omega (arith, long)) (sym u) (is_eq _ _ _ 31 31 refl
-      (whole 6 s 5 Refused _ _ (t - 32) (omega (arith, long)) (sym w)
-      (whole 4 s 11 Refused _ _ f (omega (arith, long)) (sym v) (is_ne _ _ _ f 15 b
-      (whole 4 s 15 Refused _ _ c (omega (arith, long)) (sym x) (ap₂ (λ (i k : ℕ). Is (config i f k c)) o z)))))))
+      sym (whole 5 s 0 Err _ _ 31 (omega (arith, long)) (sym u) (is_eq _ _ _ 31 31 refl
+      (whole 6 s 5 Err _ _ (t - 32) (omega (arith, long)) (sym w)
+      (whole 4 s 11 Err _ _ f (omega (arith, long)) (sym v) (is_ne _ _ _ f 15 b
+      (whole 4 s 15 Err _ _ c (omega (arith, long)) (sym x) (ap₂ (λ (i k : ℕ). Ok (config i f k c)) o z)))))))
 
   -- an escape and a frequency of its own: 6 bytes
-  reads-6 : 32 ≤ t → f ≡ 15 → r < 2 ^ 24 → config_of (bytes 6 (shifted_by 11 (31 * 2 ^ 6 + (t - 32)) 28 (15 * 2 ^ 24 + r) c) ++ rest) ≡ Is (config t f r c)
+  reads-6 : 32 ≤ t → f ≡ 15 → r < 2 ^ 24 → config_of (bytes 6 (shifted_by 11 (31 * 2 ^ 6 + (t - 32)) 28 (15 * 2 ^ 24 + r) c) ++ rest) ≡ Ok (config t f r c)
   reads-6 a b z =
       let n = (((31 * 2 ^ 6 + (t - 32)) * 2 ^ 28 + (15 * 2 ^ 24 + r)) * 2 ^ 4 + c) * 2 ^ 5 in
       let s = bytes 6 n ++ rest in
@@ -189,13 +188,13 @@ module _ (t f r c : ℕ) (h : Formed t f r c) (rest : List ℕ) where
       let y : bits_of 24 s 15 ≡ r = part 6 n rest l 24 15 9 refl ∙ omega (arith, h.type-most, z, h.channels-most) in
       let x : bits_of 4 s 39 ≡ c = part 6 n rest l 4 39 5 refl ∙ omega (arith, h.type-most, z, h.channels-most) in
       let o : t ≡ 32 + (t - 32) = omega (arith, a) in
-      sym (whole 5 s 0 Refused _ _ 31 (omega (arith, long)) (sym u) (is_eq _ _ _ 31 31 refl
-      (whole 6 s 5 Refused _ _ (t - 32) (omega (arith, long)) (sym w)
-      (whole 4 s 11 Refused _ _ 15 (omega (arith, long)) (sym v) (is_eq _ _ _ 15 15 refl
-      (whole 24 s 15 Refused _ _ r (omega (arith, long)) (sym y)
-      (whole 4 s 39 Refused _ _ c (omega (arith, long)) (sym x) (ap₂ (λ (i k : ℕ). Is (config i k r c)) o b))))))))
+      sym (whole 5 s 0 Err _ _ 31 (omega (arith, long)) (sym u) (is_eq _ _ _ 31 31 refl
+      (whole 6 s 5 Err _ _ (t - 32) (omega (arith, long)) (sym w)
+      (whole 4 s 11 Err _ _ 15 (omega (arith, long)) (sym v) (is_eq _ _ _ 15 15 refl
+      (whole 24 s 15 Err _ _ r (omega (arith, long)) (sym y)
+      (whole 4 s 39 Err _ _ c (omega (arith, long)) (sym x) (ap₂ (λ (i k : ℕ). Ok (config i k r c)) o b))))))))
 
-  fields_read : config_of (field_bytes t f r c ++ rest) ≡ Is (config t f r c)
+  fields_read : config_of (field_bytes t f r c ++ rest) ≡ Ok (config t f r c)
   fields_read =
       ⊎_elim
       (λ y.
@@ -215,11 +214,11 @@ module _ (t f r c : ℕ) (h : Formed t f r c) (rest : List ℕ) where
       two_ways false = inr refl
 
 -- fields that have a form read back, whatever follows them
-pub config-reads : (x : Config) (rest : List ℕ) → has_form x.object_type x.frequency_index x.frequency x.channels ≡ true → config_of (config_bytes x ++ rest) ≡ Is x
+pub config-reads : (x : Config) (rest : List ℕ) → has_form x.object_type x.frequency_index x.frequency x.channels ≡ true → config_of (config_bytes x ++ rest) ≡ Ok x
 config-reads x rest h = fields_read x.object_type x.frequency_index x.frequency x.channels (formed x.object_type x.frequency_index x.frequency x.channels h) rest
 
 -- what is written reads back
-pub config-back : (x : Config) (buf out : List ℕ) (p : ℕ) → config_in x buf ≡ wrote (put.Done p) out → (config_of out ≡ Is x) × (p ≡ size_for x)
+pub config-back : (x : Config) (buf out : List ℕ) (p : ℕ) → config_in x buf ≡ wrote (Ok p) out → (config_of out ≡ Ok x) × (p ≡ size_for x)
 config-back x buf out p e =
     ⊎_elim
     (λ y.
@@ -233,23 +232,23 @@ config-back x buf out p e =
 -- READ, THEN WRITTEN
 
 module _ (s : List ℕ) (x : Config) where
-  refused : {A : Type 0} (q : Refusal) → Refused q ≡ Is x → A
+  refused : {A : Type 0} (q : Refusal) → Err q ≡ Ok x → A
   refused q e = let z : ◌≡◌ {A = ℕ} 0 1 = cc in absurd (omega arith)
 
-  channels-read : (i t f r : ℕ) → channels_of s i t f r ≡ Is x → x ≡ config t f r (bits_of 4 s i)
-  channels-read i t f r e = ⊎_elim (λ y. let q : x ≡ config t f r (bits_of 4 s i) = cc y.1 in q) (λ y. refused _ y.1) (field-way 4 s i Refused _ _ e)
+  channels-read : (i t f r : ℕ) → channels_of s i t f r ≡ Ok x → x ≡ config t f r (bits_of 4 s i)
+  channels-read i t f r e = ⊎_elim (λ y. let q : x ≡ config t f r (bits_of 4 s i) = cc y.1 in q) (λ y. refused _ y.1) (field-way 4 s i Err _ _ e)
 
-  rate-read : (i t : ℕ) → rate_of s i t ≡ Is x →
+  rate-read : (i t : ℕ) → rate_of s i t ≡ Ok x →
       ((bits_of 4 s i ≡ 15 → ⊥) × (x ≡ config t (bits_of 4 s i) 0 (bits_of 4 s (i + 4)))) ⊎ ((bits_of 4 s i ≡ 15) × (x ≡ config t 15 (bits_of 24 s (i + 4)) (bits_of 4 s (i + 28))))
   rate-read i t e =
       ⊎_elim
       (λ y. ⊎_elim
       (λ z. ⊎_elim (λ v. inr (eqb-true (bits_of 4 s i) 15 z.0, channels-read (i + 28) t 15 (bits_of 24 s (i + 4)) v.1)) (λ v. refused _ v.1)
-      (field-way 24 s (i + 4) Refused _ _ z.1))
+      (field-way 24 s (i + 4) Err _ _ z.1))
       (λ z. inl (eqb-false (bits_of 4 s i) 15 z.0, channels-read (i + 4) t (bits_of 4 s i) 0 z.1))
       (way (eqb (bits_of 4 s i) 15) _ _ _ y.1))
       (λ y. refused _ y.1)
-      (field-way 4 s i Refused _ _ e)
+      (field-way 4 s i Err _ _ e)
 
 -- a part of a number and the part above it
 stack : (n k m hi lo : ℕ) → hi ≡ n / 2 ^ (k + m) → lo ≡ n / 2 ^ k % 2 ^ m → hi * 2 ^ m + lo ≡ n / 2 ^ k
@@ -375,7 +374,7 @@ module _ (s : List ℕ) where
   same : (x y : Config) → x ≡ y → Own y → Own x
   same x y e o = rw e o
 
-  own-fields : (x : Config) → config_of s ≡ Is x → Own x
+  own-fields : (x : Config) → config_of s ≡ Ok x → Own x
   own-fields x e =
       ⊎_elim
       (λ y. ⊎_elim
@@ -385,16 +384,16 @@ module _ (s : List ℕ) where
       (λ u. same x _ u.1 (own-6 (32 + bits_of 6 s 5) 15 (bits_of 24 s 15) (bits_of 4 s 39) (eqb-true (bits_of 5 s 0) 31 z.0) refl u.0 refl refl refl))
       (rate-read s x 11 (32 + bits_of 6 s 5) v.1))
       (λ v. refused s x _ v.1)
-      (field-way 6 s 5 Refused _ _ z.1))
+      (field-way 6 s 5 Err _ _ z.1))
       (λ z. ⊎_elim
       (λ u. same x _ u.1 (own-2 (bits_of 5 s 0) (bits_of 4 s 5) 0 (bits_of 4 s 9) refl (eqb-false (bits_of 5 s 0) 31 z.0) refl u.0 refl refl))
       (λ u. same x _ u.1 (own-5 (bits_of 5 s 0) 15 (bits_of 24 s 9) (bits_of 4 s 33) refl (eqb-false (bits_of 5 s 0) 31 z.0) u.0 refl refl refl))
       (rate-read s x 5 (bits_of 5 s 0) z.1))
       (way (eqb (bits_of 5 s 0) 31) _ _ _ y.1))
       (λ y. refused s x _ y.1)
-      (field-way 5 s 0 Refused _ _ e)
+      (field-way 5 s 0 Err _ _ e)
 
-  module _ (x : Config) (e : config_of s ≡ Is x) where
+  module _ (x : Config) (e : config_of s ≡ Ok x) where
     -- what was read has a form
     pub read-has-form : has_form x.object_type x.frequency_index x.frequency x.channels ≡ true
     read-has-form = (own-fields x e).0
@@ -403,8 +402,8 @@ module _ (s : List ℕ) where
     pub config-bytes-own : Bytes s → canonical s x ≡ true → config_bytes x ≡ s
     config-bytes-own = (own-fields x e).1
 
-    pub config-own : Bytes s → canonical s x ≡ true → (buf : List ℕ) → size_for x ≤ length buf → config_in x buf ≡ wrote (put.Done (size_for x)) (sets buf 0 s)
+    pub config-own : Bytes s → canonical s x ≡ true → (buf : List ℕ) → size_for x ≤ length buf → config_in x buf ≡ wrote (Ok (size_for x)) (sets buf 0 s)
     config-own b k buf r =
         sym (by-true _ _ _ (has_form x.object_type x.frequency_index x.frequency x.channels) read-has-form
         (is_le _ _ _ (0 + size_for x) (length buf) (omega (arith, r))
-        (ap₂ (λ (i : ℕ) (l : List ℕ). wrote (put.Done i) (sets buf 0 l)) (sym (zero-add (size_for x))) (sym (config-bytes-own b k)))))
+        (ap₂ (λ (i : ℕ) (l : List ℕ). wrote (Ok i) (sets buf 0 l)) (sym (zero-add (size_for x))) (sym (config-bytes-own b k)))))

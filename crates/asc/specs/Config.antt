@@ -2,15 +2,13 @@
 -- that count from 32; samplingFrequencyIndex in 4 bits, and behind 15 the frequency in 24; channelConfiguration in 4.
 -- Bits count from the highest of the first byte. Only whether the bytes are there is tested: 1 at the first one that is
 -- not (A29). What is written ends with its byte, in bits of 0; 13 where a field does not hold its value. Assumes nothing.
-use Rattle.std.specs.Prelude.{ℕ, zero, suc, ◌+◌, ◌-◌, ◌*◌, ◌/◌, ◌%◌, ◌^◌, List, Bool, false, length, get_or, eqb, leb, ltb}
+use Rattle.std.specs.Prelude.{ℕ, zero, suc, ◌+◌, ◌-◌, ◌*◌, ◌/◌, ◌%◌, ◌^◌, List, Bool, false, length, get_or, eqb, leb, ltb, Result, Ok, Err}
 use Rattle.numbers.specs.Number.{bytes}
-use Rattle.numbers.specs.Field.{refusal, when}
+use Rattle.numbers.specs.Field.{when}
+use Rattle.numbers.specs.declared.Refusal.TheVariants as refusal
 use Rattle.numbers.specs.declared.Refusal.{Refusal}
 use Rattle.put.specs.Put.{Wrote, wrote, placed}
-use Rattle.put.specs.declared.Put.TheVariants as put
 use Rattle.asc.specs.declared.Config.{Config}
-use Rattle.asc.specs.declared.Found.{Found}
-use Rattle.asc.specs.declared.Found.TheVariants.{Is, Refused}
 
 -- READING
 
@@ -24,20 +22,20 @@ bits_of (suc n) s i = bit_of s i * 2 ^ n + bits_of n s (suc i)
 
 -- that number, and on with it; or 1 at the first byte that is not there
 unfoldable pub bit_field : {A : Type 0} → (Refusal → A) → ℕ → List ℕ → ℕ → (ℕ → A) → A
-bit_field refused n s i go = when (leb (i + n) (8 * length s)) (go (bits_of n s i)) (refused (refusal 1 (length s)))
+bit_field refused n s i go = when (leb (i + n) (8 * length s)) (go (bits_of n s i)) (refused (refusal.Cut (length s)))
 
 abbrev pub config : ℕ → ℕ → ℕ → ℕ → Config
 config t f r c = record { object_type = t; frequency_index = f; frequency = r; channels = c }
 
-abbrev pub channels_of : List ℕ → ℕ → ℕ → ℕ → ℕ → Found
-channels_of s i t f r = bit_field Refused 4 s i (λ c. Is (config t f r c))
+abbrev pub channels_of : List ℕ → ℕ → ℕ → ℕ → ℕ → Result Config Refusal
+channels_of s i t f r = bit_field Err 4 s i (λ c. Ok (config t f r c))
 
-abbrev pub rate_of : List ℕ → ℕ → ℕ → Found
+abbrev pub rate_of : List ℕ → ℕ → ℕ → Result Config Refusal
 rate_of s i t =
-    bit_field Refused 4 s i (λ f. when (eqb f 15) (bit_field Refused 24 s (i + 4) (λ r. channels_of s (i + 28) t 15 r)) (channels_of s (i + 4) t f 0))
+    bit_field Err 4 s i (λ f. when (eqb f 15) (bit_field Err 24 s (i + 4) (λ r. channels_of s (i + 28) t 15 r)) (channels_of s (i + 4) t f 0))
 
-abbrev pub config_of : List ℕ → Found
-config_of s = bit_field Refused 5 s 0 (λ t. when (eqb t 31) (bit_field Refused 6 s 5 (λ x. rate_of s 11 (32 + x))) (rate_of s 5 t))
+abbrev pub config_of : List ℕ → Result Config Refusal
+config_of s = bit_field Err 5 s 0 (λ t. when (eqb t 31) (bit_field Err 6 s 5 (λ x. rate_of s 11 (32 + x))) (rate_of s 5 t))
 
 -- WRITING
 
@@ -86,7 +84,7 @@ config_bytes x = field_bytes x.object_type x.frequency_index x.frequency x.chann
 abbrev pub config_in : Config → List ℕ → Wrote
 config_in x out =
     when (has_form x.object_type x.frequency_index x.frequency x.channels) (placed (config_bytes x) (size_for x) 0 out)
-    (wrote (put.Refused (refusal 13 0)) out)
+    (wrote (Err refusal.Unwritable) out)
 
 -- bytes that were read are as we write them: no more than the fields need, and 0 behind the fields
 abbrev pub canonical : List ℕ → Config → Bool

@@ -1,11 +1,10 @@
-#![tactic(auto)]
+#![tactic(auto, unfolding(numbers::specs::Field::when, crate::specs::Config::bit_field))]
 // The first fields of an AudioSpecificConfig (ISO/IEC 14496-3, 1.6.2.1), which are no whole bytes.
-ghost use Rattle.std.specs.Prelude.{◌≡◌, ◌+◌, ◌*◌, ◌^◌, ◌≤◌, ◌<◌, length};
+ghost use Rattle.std.specs.Prelude.{◌≡◌, ◌+◌, ◌*◌, ◌^◌, ◌≤◌, ◌<◌, length, IfOk, Ok, Err};
 ghost use Rattle.put.specs.Put.{wrote};
 ghost use Rattle.asc.specs.Config.{bit_of, bits_of, bit_field, channels_of, rate_of, config_of, has_form, config_in};
 
-use numbers::{Refusal, U32};
-use put::Put;
+use numbers::Refusal;
 
 #[derive(Clone, Copy)]
 pub struct Config {
@@ -14,12 +13,6 @@ pub struct Config {
     // where the index is 15, else 0
     pub frequency: u32,
     pub channels: u8,
-}
-
-#[derive(Clone, Copy)]
-pub enum Found {
-    Is(Config),
-    Refused(Refusal),
 }
 
 // 2 to the power of w.
@@ -43,7 +36,7 @@ fn bit(s: &[u8], i: usize) -> u32
 // The number in n bits from bit i on.
 fn bits(s: &[u8], i: usize, n: usize) -> u32
     requires { (i + n ≤ 8 * length s.now) × (i ≤ 64) × (n ≤ 24) }
-    ensures { result ≡ bits_of n s.now i }
+    ensures { (result ≡ bits_of n s.now i) × (result < 2 ^ n) }
 {
     let mut value = 0;
     let mut k: usize = 0;
@@ -55,75 +48,51 @@ fn bits(s: &[u8], i: usize, n: usize) -> u32
 }
 
 // The same, where the bytes do not end before.
-fn field(s: &[u8], i: usize, n: usize) -> U32
+fn field(s: &[u8], i: usize, n: usize) -> Result<u32, Refusal>
     requires { (i ≤ 64) × (n ≤ 24) }
-    ensures { result ≡ bit_field U32.Refused n s.now i U32.Is }
+    ensures value { result ≡ bit_field Err n s.now i Ok }
+    ensures below { IfOk result (λ v. v < 2 ^ n) }
 {
     if s.len() < (i + n + 7) / 8 {
-        return U32::Refused(Refusal {
-            number: 1,
-            detail: s.len(),
-        });
+        return Err(Refusal::Cut(s.len()));
     }
-    U32::Is(bits(s, i, n))
+    Ok(bits(s, i, n))
 }
 
 // The channels, from bit i on.
-fn channels(s: &[u8], i: usize, kind: u8, index: u8, frequency: u32) -> Found
+fn channels(s: &[u8], i: usize, kind: u8, index: u8, frequency: u32) -> Result<Config, Refusal>
     requires { i ≤ 64 }
     ensures { result ≡ channels_of s.now i kind index frequency }
 {
-    match field(s, i, 4) {
-        U32::Refused(q) => Found::Refused(q),
-        U32::Is(n) => Found::Is(Config {
-            object_type: kind,
-            frequency_index: index,
-            frequency: frequency,
-            channels: n as u8,
-        }),
-    }
+    let n = field(s, i, 4)?;
+    Ok(Config {
+        object_type: kind,
+        frequency_index: index,
+        frequency,
+        channels: n as u8,
+    })
 }
 
 // The frequency, from bit i on, and what follows.
-fn rate(s: &[u8], i: usize, kind: u8) -> Found
+fn rate(s: &[u8], i: usize, kind: u8) -> Result<Config, Refusal>
     requires { i ≤ 32 }
     ensures { result ≡ rate_of s.now i kind }
 {
-    let U32::Is(index) = field(s, i, 4) else {
-        return Found::Refused(Refusal {
-            number: 1,
-            detail: s.len(),
-        });
-    };
+    let index = field(s, i, 4)?;
     if index == 15 {
-        let U32::Is(frequency) = field(s, i + 4, 24) else {
-            return Found::Refused(Refusal {
-                number: 1,
-                detail: s.len(),
-            });
-        };
+        let frequency = field(s, i + 4, 24)?;
         return channels(s, i + 28, kind, 15, frequency);
     }
     channels(s, i + 4, kind, index as u8, 0)
 }
 
 // The fields at the start of the bytes. Only whether they are there is tested.
-pub fn read(info: &[u8]) -> Found
+pub fn read(info: &[u8]) -> Result<Config, Refusal>
     ensures { result ≡ config_of info.now }
 {
-    let U32::Is(short) = field(info, 0, 5) else {
-        return Found::Refused(Refusal {
-            number: 1,
-            detail: info.len(),
-        });
-    };
+    let short = field(info, 0, 5)?;
     if short == 31 {
-        let U32::Is(more) = field(info, 5, 6) else {
-            return Found::Refused(Refusal {
-                number: 1,
-                detail: info.len(),
-            });
-        };
+        let more = field(info, 5, 6)?;
         return rate(info, 11, 32 + (more as u8));
     }
     rate(info, 5, short as u8)
@@ -152,7 +121,7 @@ fn has_form(kind: u8, index: u8, frequency: u32, channels: u8) -> bool
 }
 
 // The fields in as few bytes as hold them, the bits behind them 0; 13 where a field does not hold its value.
-pub fn write(config: Config, out: &mut [u8]) -> Put
+pub fn write(config: Config, out: &mut [u8]) -> Result<usize, Refusal>
     ensures { wrote result out.new ≡ config_in config out.old }
 {
     if !has_form(
@@ -161,10 +130,7 @@ pub fn write(config: Config, out: &mut [u8]) -> Put
         config.frequency,
         config.channels,
     ) {
-        return Put::Refused(Refusal {
-            number: 13,
-            detail: 0,
-        });
+        return Err(Refusal::Unwritable);
     }
     let kind = config.object_type as u64;
     let index = config.frequency_index as u64;

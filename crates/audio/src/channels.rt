@@ -2,22 +2,16 @@
 ghost use Rattle.std.specs.Prelude.{◌≡◌};
 ghost use Rattle.audio.specs.Channels.{configuration};
 
-use numbers::{Refusal, U8};
+use numbers::Refusal;
 
-pub fn configuration(n: u8) -> U8
+pub fn configuration(n: u8) -> Result<u8, Refusal>
     ensures { result ≡ configuration n }
 {
     if n == 0 {
-        return U8::Refused(Refusal {
-            number: 8,
-            detail: 0,
-        });
+        return Err(Refusal::Value(0));
     }
     if 7 < n {
-        return U8::Refused(Refusal {
-            number: 8,
-            detail: 0,
-        });
+        return Err(Refusal::Value(0));
     }
-    U8::Is(n)
+    Ok(n)
 }

@@ -2,37 +2,31 @@
 ghost use Rattle.std.specs.Prelude.{◌≡◌};
 ghost use Rattle.audio.specs.Frequencies.{frequency_of, index_of};
 
-use numbers::{Refusal, U8, U32};
+use numbers::Refusal;
 
 pub const FREQUENCIES: [u32; 13] = [
     96_000, 88_200, 64_000, 48_000, 44_100, 32_000, 24_000, 22_050, 16_000, 12_000, 11_025, 8_000,
     7_350,
 ];
 
-pub fn frequency(index: u8) -> U32
+pub fn frequency(index: u8) -> Result<u32, Refusal>
     ensures { result ≡ frequency_of index }
 {
     if 12 < index {
-        return U32::Refused(Refusal {
-            number: 8,
-            detail: 0,
-        });
+        return Err(Refusal::Value(0));
     }
-    U32::Is(FREQUENCIES[index as usize])
+    Ok(FREQUENCIES[index as usize])
 }
 
-pub fn index_of(frequency: u32) -> U8
+pub fn index_of(frequency: u32) -> Result<u8, Refusal>
     ensures { result ≡ index_of frequency }
 {
     let mut i = 0u8;
     while i < 13 {
         if FREQUENCIES[i as usize] == frequency {
-            return U8::Is(i);
+            return Ok(i);
         }
         i = i + 1;
     }
-    U8::Refused(Refusal {
-        number: 8,
-        detail: 0,
-    })
+    Err(Refusal::Value(0))
 }

@@ -2,7 +2,7 @@
 ghost use Rattle.std.specs.Prelude.{◌≡◌};
 ghost use Rattle.audio.specs.Objects.{known, object_type};
 
-use numbers::{Refusal, U8};
+use numbers::Refusal;
 
 // The others are no type, reserved, or 31, which is the escape to the types above it.
 fn is_known(n: u8) -> bool
@@ -14,14 +14,11 @@ fn is_known(n: u8) -> bool
         | ((32 <= n) & (n <= 46))
 }
 
-pub fn object_type(n: u8) -> U8
+pub fn object_type(n: u8) -> Result<u8, Refusal>
     ensures { result ≡ object_type n }
 {
     if is_known(n) {
-        return U8::Is(n);
+        return Ok(n);
     }
-    U8::Refused(Refusal {
-        number: 8,
-        detail: 0,
-    })
+    Err(Refusal::Value(0))
 }

@@ -1,4 +1,5 @@
 -- What clean means, of a file's bytes, in both directions; and that a finding is the first. Assumes nothing.
+use Rattle.std.specs.Prelude.{Result, Ok, Err}
 use Prim.Native.Nat.{ℕ}
 use mathlib.Core.Path.{◌≡◌, refl, sym, ap, subst, ◌∙◌}
 use mathlib.Core.List.{List, [], ◌∷◌}
@@ -8,8 +9,6 @@ use lib.ListN.{length}
 use Rattle.numbers.specs.Field.{when}
 use Rattle.numbers.specs.declared.Refusal.{Refusal}
 use Rattle.rows.specs.Judge.{settle}
-use Rattle.rows.specs.declared.Judged.{Judged}
-use Rattle.rows.specs.declared.Judged.TheVariants.{Fine, Wrong}
 use Rattle.kin.specs.Kin.{Boxes}
 use Rattle.tables.specs.declared.Track as tables
 use Rattle.agree.specs.Agree.{agree_of}
@@ -57,7 +56,7 @@ module _ (f : List ℕ) where
   made_in m e = cases (fragments_of f (boxes_of f) (count_of f)) (tables_in f (boxes_of f) (count_of f) (first_traks (boxes_of f) (count_of f))) e
     where
       never : (q : Refusal) → is_not q ≡ is m → ⊥
-      never q z = let y : ◌≡◌ {A = ℕ} 0 1 = cc in omega arith
+      never q z = let y : ◌≡◌ {A = ℕ} 0 1 = cc z in omega arith
 
       cases : (a : All Fragment) (b : All tables.Track)
           → with_all a (λ frs. with_all b (λ ts. is (movie_of f (payloads_from f (boxes_of f) (count_of f) 0) (numbers_of f (boxes_of f) (count_of f) (first_traks (boxes_of f) (count_of f))) ts (all_runs frs) (moofs_of f frs)))) ≡ is m
@@ -73,16 +72,16 @@ module _ (f : List ℕ) where
   made m e = cases (refusal_of f (boxes_of f) (scanned_of f)) (movie_in f (boxes_of f) (count_of f)) refl e
     where
       never : (q : Refusal) → is_not q ≡ is m → ⊥
-      never q z = let y : ◌≡◌ {A = ℕ} 0 1 = cc in omega arith
+      never q z = let y : ◌≡◌ {A = ℕ} 0 1 = cc z in omega arith
 
-      fine : (x : Movie) (j : Judged) → settle (is x) is_not j ≡ is m → x ≡ m
-      fine x Fine z = ap (movie_or m) z
-      fine x (Wrong q) z = absurd (never q z)
+      fine : (x : Movie) (j : Result (Unit {0}) Refusal) → settle (is x) is_not j ≡ is m → x ≡ m
+      fine x (Ok tt) z = ap (movie_or m) z
+      fine x (Err q) z = absurd (never q z)
 
-      cases : (j : Judged) (o : Opened) → movie_in f (boxes_of f) (count_of f) ≡ o → settle (unless_refused o) is_not j ≡ is m → Made f m
-      cases Fine (is x) g z = made_in m (g ∙ ap is (fine x (refusal_in x) z))
-      cases Fine (is_not q) g z = absurd (never q z)
-      cases (Wrong q) o g z = absurd (never q z)
+      cases : (j : Result (Unit {0}) Refusal) (o : Opened) → movie_in f (boxes_of f) (count_of f) ≡ o → settle (unless_refused o) is_not j ≡ is m → Made f m
+      cases (Ok tt) (is x) g z = made_in m (g ∙ ap is (fine x (refusal_in x) z))
+      cases (Ok tt) (is_not q) g z = absurd (never q z)
+      cases (Err q) o g z = absurd (never q z)
 
   module _ (m : Movie) (e : open_of f ≡ is m) where
     in_order : InOrder m.payloads
@@ -105,10 +104,10 @@ verdict-clean (verdict.Clean x y z) a b c e = ap back e
     back (Clean i j k) = verdict.Clean i j k
     back (Found w) = verdict.Found w
     back (Refused q) = verdict.Clean 0 0 0
-verdict-clean (verdict.Found x) a b c e = let y : ◌≡◌ {A = ℕ} 0 1 = cc in absurd (omega arith)
+verdict-clean (verdict.Found x) a b c e = let y : ◌≡◌ {A = ℕ} 0 1 = cc e in absurd (omega arith)
 
 verdict-found : (v : Verdict) (w : Finding) → audited v ≡ Found w → v ≡ verdict.Found w
-verdict-found (verdict.Clean x y z) w e = let y : ◌≡◌ {A = ℕ} 0 1 = cc in absurd (omega arith)
+verdict-found (verdict.Clean x y z) w e = let y : ◌≡◌ {A = ℕ} 0 1 = cc e in absurd (omega arith)
 verdict-found (verdict.Found x) w e = ap back e
   where
     back : Audited → Verdict
@@ -127,7 +126,7 @@ module _ (f : List ℕ) (fs : List Fragment) where
   tracks-next false (n ∷ ns) (t ∷ ts) h = (tables-next f t, tracks-next false ns ts (λ e. absurd (never e)))
     where
       never : false ≡ true → ⊥
-      never z = let y : ◌≡◌ {A = ℕ} 0 1 = cc in omega arith
+      never z = let y : ◌≡◌ {A = ℕ} 0 1 = cc z in omega arith
 
 -- a file's tracks, of these bytes, runs and moofs
 abbrev Timed : List ℕ → List tables.Track → List ℕ → List Run → List Moof → Type 0
@@ -159,7 +158,7 @@ module _ (f : List ℕ) where
   file-clean a b c e = cases (open_of f) refl e
     where
       never : (q : Refusal) → Refused q ≡ Clean a b c → ⊥
-      never q z = let y : ◌≡◌ {A = ℕ} 0 1 = cc in omega arith
+      never q z = let y : ◌≡◌ {A = ℕ} 0 1 = cc z in omega arith
 
       cases : (o : Opened) → open_of f ≡ o → answer_to o ≡ Clean a b c → Opens (λ m. Witnessed m × (Clean a b c ≡ Clean (length (tracks_of m)) (total (tracks_of m)) (bytes m.payloads)))
       cases (is_not q) g z = absurd (never q z)
@@ -186,7 +185,7 @@ module _ (f : List ℕ) where
   file-first x e = cases (open_of f) refl e
     where
       never : (q : Refusal) → Refused q ≡ Found x → ⊥
-      never q z = let y : ◌≡◌ {A = ℕ} 0 1 = cc in omega arith
+      never q z = let y : ◌≡◌ {A = ℕ} 0 1 = cc z in omega arith
 
       cases : (o : Opened) → open_of f ≡ o → answer_to o ≡ Found x → Opens (λ m. FirstIn (questions (tracks_of m) m.payloads m.moofs) x)
       cases (is_not q) g z = absurd (never q z)

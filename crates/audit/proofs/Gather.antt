@@ -1,4 +1,5 @@
 -- The tracks of the moov one by one, until there are no more or there are enough. Assumes nothing.
+use Rattle.std.specs.Prelude.{Result, Ok, Err}
 use Prim.Native.Nat.{ℕ, suc, ◌+◌, ◌-◌, ◌<◌, ◌≤◌}
 use mathlib.Core.Path.{◌≡◌, refl, sym, ap, ap₂, ◌∙◌}
 use mathlib.Core.List.{List, [], ◌∷◌, ◌++◌, append_assoc, append-nil}
@@ -17,8 +18,6 @@ use Rattle.places.specs.Kinds.{moov}
 use Rattle.places.specs.Kinds as kinds
 use Rattle.kin.specs.Kin.{Boxes}
 use Rattle.tables.specs.declared.Track as tables
-use Rattle.stbl.specs.declared.Found.{Found}
-use Rattle.stbl.specs.declared.Found.TheVariants as found
 use Rattle.inside.specs.Inside.{inside_of, child}
 use Rattle.traks.specs.Traks.{next_trak, number_of, tables_of}
 use Rattle.traks.proofs.Laws.{next-none, next_more}
@@ -31,6 +30,7 @@ use Rattle.verdicts.specs.declared.Audited.TheVariants.{Refused}
 use Rattle.movie.specs.Movie.{movie_of, judge_of}
 use Rattle.audit.specs.File.{numbers_of, with_tables, tables_in}
 use Rattle.audit.specs.Inside.{more_of, judged_with, judged_by}
+use Rattle.tables.specs.declared.Track.{Track}
 
 module _ (trak count : ℕ) where
   pub none : trak ≡ 0 → false ≡ more_of trak count
@@ -47,7 +47,7 @@ module _ (trak count : ℕ) (b : Bool) (e : b ≡ more_of trak count) where
   one_more q = cases (eqb trak 0) refl (sym e ∙ q)
     where
       never : false ≡ true → ⊥
-      never z = let y : ◌≡◌ {A = ℕ} 0 1 = cc in omega arith
+      never z = let y : ◌≡◌ {A = ℕ} 0 1 = cc z in omega arith
 
       cases : (x : Bool) → eqb trak 0 ≡ x → when x false (ltb count 4) ≡ true → (trak ≡ 0 → ⊥) × (count < 4)
       cases true h z = absurd (never z)
@@ -125,9 +125,9 @@ module _ (f : List ℕ) (t : Boxes) (n : ℕ) (rs : List Run) (ms : List Moof) w
       next_up : take (4 - count) (left trak) ≡ trak ∷ take (4 - (count + 1)) (in_moov trak)
       next_up = ap₂ (λ (k : ℕ) (l : List ℕ). take k l) (let z : 4 - count ≡ suc (4 - (count + 1)) = omega arith in z) (left_one trak here)
 
-      pub refuses : (q : Refusal) → tables_of f t n trak ≡ found.Refused q → Refused q ≡ judged_by f t n rs ms
+      pub refuses : (q : Refusal) → tables_of f t n trak ≡ Err q → Refused q ≡ judged_by f t n rs ms
       refuses q e =
-          sym (ap (λ (x : Found). judged_with f t n rs ms (take count numbers) (take count tracks) (numbers_of f t n (trak ∷ take (4 - (count + 1)) (in_moov trak))) (with_tables x (tables_in f t n (take (4 - (count + 1)) (in_moov trak))))) e)
+          sym (ap (λ (x : Result Track Refusal). judged_with f t n rs ms (take count numbers) (take count tracks) (numbers_of f t n (trak ∷ take (4 - (count + 1)) (in_moov trak))) (with_tables x (tables_in f t n (take (4 - (count + 1)) (in_moov trak))))) e)
           ∙ ap (answer (take count numbers) (take count tracks)) (sym next_up) ∙ w.same
 
       shifted : (ns : List ℕ) (ts : List tables.Track) (x : ℕ) (y : tables.Track) (more : List ℕ) (us : All tables.Track)
@@ -136,7 +136,7 @@ module _ (f : List ℕ) (t : Boxes) (n : ℕ) (rs : List Run) (ms : List Moof) w
           ap₂ (λ (a : List ℕ) (b : List tables.Track). judge_of (movie_of f (payloads_from f t n 0) a b rs ms)) (append_assoc ns (x ∷ []) more) (append_assoc ts (y ∷ []) us)
       shifted ns ts x y more (refused q) = refl
 
-      pub gathers-on : (x : tables.Track) (k r : ℕ) → tables_of f t n trak ≡ found.Is x → k ≡ number_of f t n trak → r ≡ next_trak t n trak
+      pub gathers-on : (x : tables.Track) (k r : ℕ) → tables_of f t n trak ≡ Ok x → k ≡ number_of f t n trak → r ≡ next_trak t n trak
           → Gathering (set numbers count k) (set tracks count x) (count + 1) r
       gathers-on x k r e ek er =
           let ps : List ℕ = take (4 - (count + 1)) (in_moov trak) in
@@ -151,6 +151,6 @@ module _ (f : List ℕ) (t : Boxes) (n : ℕ) (rs : List Run) (ms : List Moof) w
                 (ap (λ (j : ℕ). take j (set tracks count x)) (add-one count) ∙ take-suc-set tracks count x (omega (arith, w.as_many)))
                 ∙ shifted (take count numbers) (take count tracks) k x (numbers_of f t n ps) (tables_in f t n ps)
                 ∙ ap (λ (j : ℕ). judged_with f t n rs ms (take count numbers) (take count tracks) (j ∷ numbers_of f t n ps) (before x (tables_in f t n ps))) ek
-                ∙ ap (λ (y : Found). judged_with f t n rs ms (take count numbers) (take count tracks) (number_of f t n trak ∷ numbers_of f t n ps) (with_tables y (tables_in f t n ps))) (sym e)
+                ∙ ap (λ (y : Result Track Refusal). judged_with f t n rs ms (take count numbers) (take count tracks) (number_of f t n trak ∷ numbers_of f t n ps) (with_tables y (tables_in f t n ps))) (sym e)
                 ∙ ap (answer (take count numbers) (take count tracks)) (sym next_up) ∙ w.same;
           }

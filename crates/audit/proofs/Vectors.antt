@@ -7,7 +7,8 @@ use native.Mathlib.Omega.{arith}
 use lib.IntN.{ℤ, pos, negsuc}
 use lib.ListN.{replicate}
 use Rattle.numbers.specs.Number.{be, bytes}
-use Rattle.numbers.specs.Field.{refusal, field, when}
+use Rattle.numbers.specs.Field.{field, when}
+use Rattle.numbers.specs.declared.Refusal.TheVariants as refusal
 use Rattle.numbers.specs.declared.Refusal.{Refusal}
 use Rattle.signed.specs.Signed.{signed}
 use Rattle.layout.specs.Rule.{rule_of}
@@ -120,15 +121,15 @@ second-differs = computed (file 210 (track 1 1000 (times 3 ++ spread ++ chunks 1
 
 -- what is wrong in a box goes before what is wrong behind it: a timescale of 0, then a header that is cut; and both before
 -- a box that is missing
-content-first : audit_file (file 210 (track 1 0 (times 3 ++ spread ++ chunks 148)) ++ replicate 3 0) ≡ Refused (refusal 8 402)
+content-first : audit_file (file 210 (track 1 0 (times 3 ++ spread ++ chunks 148)) ++ replicate 3 0) ≡ Refused (refusal.Value 402)
 unfolding be bytes field when places listed siblings kids_of puts scanned_of boxes_of rule_of one decode cut_of width_of allowed_of last_of cells_of entries_of readers codings pick keys pick_key some sum next_in child first each needed in_stbl in_minf in_mdia in_trak in_file first_fault refusal_of rows_by spans_by tables_of pair_at group_at offset_at size_at number_at fragments_in signed agree_of refusal_in questions audit_of sweep_from
 content-first = computed (file 210 (track 1 0 (times 3 ++ spread ++ chunks 148)) ++ replicate 3 0) ∙ refl
 
-then-header : audit_file (file 210 (track 1 1000 (times 3 ++ spread)) ++ replicate 3 0) ≡ Refused (refusal 1 602)
+then-header : audit_file (file 210 (track 1 1000 (times 3 ++ spread)) ++ replicate 3 0) ≡ Refused (refusal.Cut 602)
 unfolding be bytes field when places listed siblings kids_of puts scanned_of boxes_of rule_of one decode cut_of width_of allowed_of last_of cells_of entries_of readers codings pick keys pick_key some sum next_in child first each needed in_stbl in_minf in_mdia in_trak in_file first_fault refusal_of rows_by spans_by tables_of pair_at group_at offset_at size_at number_at fragments_in signed agree_of refusal_in questions audit_of sweep_from
 then-header = computed (file 210 (track 1 1000 (times 3 ++ spread)) ++ replicate 3 0) ∙ refl
 
-then-missing : audit_file (file 210 (track 1 1000 (times 3 ++ spread))) ≡ Refused (refusal 5 stco)
+then-missing : audit_file (file 210 (track 1 1000 (times 3 ++ spread))) ≡ Refused (refusal.Missing stco)
 unfolding be bytes field when places listed siblings kids_of puts scanned_of boxes_of rule_of one decode cut_of width_of allowed_of last_of cells_of entries_of readers codings pick keys pick_key some sum next_in child first each needed in_stbl in_minf in_mdia in_trak in_file first_fault refusal_of rows_by spans_by tables_of pair_at group_at offset_at size_at number_at fragments_in signed agree_of refusal_in questions audit_of sweep_from
 then-missing = computed (file 210 (track 1 1000 (times 3 ++ spread))) ∙ refl
 
@@ -136,11 +137,11 @@ abbrev empty : List ℕ
 empty = of moof (box mfhd 0 0 (words (1 ∷ [])))
 
 -- a moof behind samples in the moov is 10; where one of these samples does not fit, that is 9, and comes before
-mixed : audit_file (case2 210 148 ++ empty) ≡ Refused (refusal 10 0)
+mixed : audit_file (case2 210 148 ++ empty) ≡ Refused refusal.Mixed
 unfolding be bytes field when places listed siblings kids_of puts scanned_of boxes_of rule_of one decode cut_of width_of allowed_of last_of cells_of entries_of readers codings pick keys pick_key some sum next_in child first each needed in_stbl in_minf in_mdia in_trak in_file first_fault refusal_of track_from trex_of needed_trex in_traf in_moof run_of runs_in values.own_of values.duration_at values.size_at values.flags_by sample_at run_samples bytes_in durations_in count_of mine gap_of optional rows_by spans_by tables_of pair_at group_at offset_at size_at number_at fragments_in signed agree_of refusal_in questions audit_of sweep_from
 mixed = computed (case2 210 148 ++ empty) ∙ refl
 
-over_first : audit_file (file 210 (track 1 1000 (times 3 ++ spread ++ box co64 0 0 (words (4 ∷ []) ++ bytes 8 48 ++ bytes 8 78 ++ bytes 8 148 ++ replicate 8 255))) ++ empty) ≡ Refused (refusal 9 0)
+over_first : audit_file (file 210 (track 1 1000 (times 3 ++ spread ++ box co64 0 0 (words (4 ∷ []) ++ bytes 8 48 ++ bytes 8 78 ++ bytes 8 148 ++ replicate 8 255))) ++ empty) ≡ Refused refusal.Overflow
 unfolding be bytes field when places listed siblings kids_of puts scanned_of boxes_of rule_of one decode cut_of width_of allowed_of last_of cells_of entries_of readers codings pick keys pick_key some sum next_in child first each needed in_stbl in_minf in_mdia in_trak in_file first_fault refusal_of track_from trex_of needed_trex in_traf in_moof run_of runs_in values.own_of values.duration_at values.size_at values.flags_by sample_at run_samples bytes_in durations_in count_of mine gap_of optional rows_by spans_by tables_of pair_at group_at offset_at size_at number_at fragments_in signed agree_of refusal_in questions audit_of sweep_from
 over_first = computed (file 210 (track 1 1000 (times 3 ++ spread ++ box co64 0 0 (words (4 ∷ []) ++ bytes 8 48 ++ bytes 8 78 ++ bytes 8 148 ++ replicate 8 255))) ++ empty) ∙ refl
 

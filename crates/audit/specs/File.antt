@@ -1,13 +1,11 @@
 -- The answer to a file's bytes: the movie that its boxes tell, or why it is refused (01, Answers; A1, A13, A15), and the
 -- audit of that movie. Assumes nothing.
-use Rattle.std.specs.Prelude.{ℕ, List, [], ◌∷◌, take}
+use Rattle.std.specs.Prelude.{ℕ, List, [], ◌∷◌, take, Result, Ok, Err}
 use Rattle.numbers.specs.declared.Refusal.{Refusal}
 use Rattle.rows.specs.Judge.{settle}
 use Rattle.kin.specs.Kin.{Boxes, track_limit}
 use Rattle.opening.specs.Opening.{refusal_of}
 use Rattle.tables.specs.declared.Track as tables
-use Rattle.stbl.specs.declared.Found.{Found}
-use Rattle.stbl.specs.declared.Found.TheVariants as found
 use Rattle.traks.specs.Traks.{traks_of, number_of, tables_of}
 use Rattle.moofs.specs.Moofs.{All, all, refused, before, fragments_of, all_runs}
 use Rattle.payloads.specs.Payloads.{payloads_from}
@@ -17,6 +15,7 @@ use Rattle.verdicts.specs.Audit.{audit_of, audited}
 use Rattle.verdicts.specs.declared.Audited.{Audited}
 use Rattle.verdicts.specs.declared.Audited.TheVariants.{Refused}
 use Rattle.audit.specs.Boxes.{scanned_of, boxes_of, count_of}
+use Rattle.tables.specs.declared.Track.{Track}
 
 -- THE TRACKS
 
@@ -28,9 +27,9 @@ abbrev pub numbers_of : List ℕ → Boxes → ℕ → List ℕ → List ℕ
 numbers_of f t n [] = []
 numbers_of f t n (p ∷ ps) = number_of f t n p ∷ numbers_of f t n ps
 
-abbrev pub with_tables : Found → All tables.Track → All tables.Track
-with_tables (found.Is x) rest = before x rest
-with_tables (found.Refused q) rest = refused q
+abbrev pub with_tables : Result Track Refusal → All tables.Track → All tables.Track
+with_tables (Ok x) rest = before x rest
+with_tables (Err q) rest = refused q
 
 -- their tables; each of their boxes was read before, so that none is refused here
 abbrev pub tables_in : List ℕ → Boxes → ℕ → List ℕ → All tables.Track
@@ -59,7 +58,7 @@ abbrev pub unless_refused : Opened → Opened
 unless_refused (is m) = settle (is m) is_not (refusal_in m)
 unless_refused (is_not q) = is_not q
 
--- a file: the tree, the contents of its boxes and what is missing (1 to 8); then 9 and 10
+-- a file: the tree, the contents of its boxes and what is missing; then what is refused of its movie
 unfoldable pub open_of : List ℕ → Opened
 open_of f = settle (unless_refused (movie_in f (boxes_of f) (count_of f))) is_not (refusal_of f (boxes_of f) (scanned_of f))
 

@@ -1,4 +1,4 @@
-#![tactic(auto)]
+#![tactic(auto, unfolding(numbers::specs::Field::when, numbers::specs::Field::field))]
 // The audit of a file: from its bytes to a verdict, or to why it is refused.
 ghost use Rattle.std.specs.Prelude.{◌≡◌};
 ghost use Rattle.kin.specs.Kin.{boxes};
@@ -11,9 +11,7 @@ ghost use Rattle.audit.specs.Inside.{more_of, judged_by, judged_all};
 
 use kin::TRACKS;
 use moofs::Filled;
-use rows::Judged;
-use stbl::Found;
-use tables::{Chunks, Optional, Sizes, Table, Track};
+use tables::{Chunks, Sizes, Table, Track};
 use tree::Scanned;
 use verdicts::Audited;
 
@@ -21,7 +19,7 @@ use verdicts::Audited;
 fn no_track() -> Track {
     Track {
         stts: Table { at: 0, count: 0 },
-        ctts: Optional::Absent,
+        ctts: None,
         stsc: Table { at: 0, count: 0 },
         stsz: Sizes {
             at: 0,
@@ -33,7 +31,7 @@ fn no_track() -> Track {
             count: 0,
             wide: false,
         },
-        stss: Optional::Absent,
+        stss: None,
     }
 }
 
@@ -69,10 +67,10 @@ fn by_tracks(
     let mut trak = traks::next(0, n, starts, sizes, kinds, parents, placed);
     while more(trak, count) {
         match traks::tables(file, trak, n, starts, sizes, kinds, parents, placed) {
-            Found::Refused(q) => {
+            Err(q) => {
                 return Audited::Refused(q);
             }
-            Found::Is(track) => {
+            Ok(track) => {
                 numbers[count] = traks::number(
                     file, trak, n, starts, sizes, kinds, parents, placed,
                 );
@@ -105,11 +103,13 @@ fn by_fragments(
     match moofs::fill(
         file, n, starts, sizes, kinds, parents, placed, &mut runs, &mut moofs,
     ) {
-        Filled::Refused(q) => Audited::Refused(q),
-        Filled::Are {
-            runs: rows,
-            moofs: many,
-        } => by_tracks(
+        Err(why) => Audited::Refused(why),
+        Ok(
+            Filled {
+                runs: rows,
+                moofs: many,
+            },
+        ) => by_tracks(
             file, n, starts, sizes, kinds, parents, placed, &runs, rows, &moofs, many,
         ),
     }
@@ -144,8 +144,8 @@ pub fn audit(file: &[u8]) -> Audited
         &mut placed,
     );
     match opening::refusal(file, scanned, &starts, &sizes, &kinds, &parents, &placed) {
-        Judged::Wrong(q) => Audited::Refused(q),
-        Judged::Fine => by_fragments(
+        Err(q) => Audited::Refused(q),
+        Ok(()) => by_fragments(
             file,
             count_in(scanned),
             &starts,

@@ -1,17 +1,17 @@
 -- Worked examples of the definitions, computed. Assumes nothing.
+use Rattle.std.specs.Prelude.{Ok, Err}
 use mathlib.Core.Path.{◌≡◌, refl}
 use mathlib.Core.List.{List, [], ◌∷◌, ◌++◌}
 use Prim.Native.Nat.{ℕ}
 use lib.ListN.{replicate}
 use Rattle.numbers.specs.Number.{be, bytes}
-use Rattle.numbers.specs.Field.{refusal, field, when}
+use Rattle.numbers.specs.Field.{field, when}
+use Rattle.numbers.specs.declared.Refusal.TheVariants as refusal
 use Rattle.put.specs.Put.{wrote}
-use Rattle.put.specs.declared.Put.TheVariants as put
 use Rattle.layout.specs.Rule.{rule_of}
 use Rattle.layout.specs.Read.{one, decode}
 use Rattle.layout.specs.Write.{lay, encode, full}
 use Rattle.visual.specs.declared.Visual.{Visual}
-use Rattle.visual.specs.declared.Found.TheVariants as visual
 use Rattle.children.specs.Children.{row_of, first_in}
 use Rattle.children.proofs.Example.{of}
 use Rattle.avc1.specs.Avc1 as avc1-is
@@ -42,12 +42,12 @@ config = of 0x61766343 (5 ∷ [])
 abbrev other : List ℕ
 other = of 0x70617370 (1 ∷ 2 ∷ [])
 
-avc1-read : avc1-is.avc1_of (full 0x61766331 body config) ≡ visual.Is small
+avc1-read : avc1-is.avc1_of (full 0x61766331 body config) ≡ Ok small
 unfolding be bytes field when rule_of one decode
 avc1-read = refl
 
 -- an entry of another kind
-avc1-other : avc1-is.avc1_of (full 0x61766333 body config) ≡ visual.Refused (refusal 8 4)
+avc1-other : avc1-is.avc1_of (full 0x61766333 body config) ≡ Err (refusal.Value 4)
 unfolding be bytes field when rule_of one decode
 avc1-other = refl
 
@@ -65,14 +65,14 @@ avc1-no-avcc : avc1-is.avcc_of (full 0x61766331 body other) ≡ []
 unfolding be bytes field when rule_of one decode row_of first_in
 avc1-no-avcc = refl
 
-avc1-cut : avc1-is.avc1_of (full 0x61766331 (replicate 77 0) []) ≡ visual.Refused (refusal 1 84)
+avc1-cut : avc1-is.avc1_of (full 0x61766331 (replicate 77 0) []) ≡ Err (refusal.Cut 84)
 unfolding be bytes field when rule_of one decode
 avc1-cut = refl
 
-avc1-written : avc1-is.avc1_in small config (replicate 96 9) ≡ wrote (put.Done 95) (full 0x61766331 body config ++ replicate 1 9)
+avc1-written : avc1-is.avc1_in small config (replicate 96 9) ≡ wrote (Ok 95) (full 0x61766331 body config ++ replicate 1 9)
 unfolding bytes when rule_of lay encode
 avc1-written = refl
 
-avc1-too-small : avc1-is.avc1_in small config (replicate 94 9) ≡ wrote (put.Refused (refusal 12 95)) (replicate 94 9)
+avc1-too-small : avc1-is.avc1_in small config (replicate 94 9) ≡ wrote (Err (refusal.TooSmall 95)) (replicate 94 9)
 unfolding bytes when rule_of lay encode
 avc1-too-small = refl

@@ -1,16 +1,16 @@
 -- The sample entry of an AVC track (ISO/IEC 14496-15, 5.4.2.1): a visual sample entry whose boxes hold the configuration
 -- of its decoder, avcC. Assumes nothing.
-use Rattle.std.specs.Prelude.{ℕ, List}
+use Rattle.std.specs.Prelude.{ℕ, List, Result}
 use Rattle.put.specs.Put.{Wrote}
 use Rattle.visual.specs.Visual as visual
 use Rattle.visual.specs.declared.Visual.{Visual}
-use Rattle.visual.specs.declared.Found.{Found}
 use Rattle.children.specs.Children.{child_of}
+use Rattle.numbers.specs.declared.Refusal.{Refusal}
 
 abbrev pub kind : ℕ
 kind = 0x61766331
 
-abbrev pub avc1_of : List ℕ → Found
+abbrev pub avc1_of : List ℕ → Result Visual Refusal
 avc1_of part = visual.visual_of kind part
 
 abbrev pub children_of : List ℕ → List ℕ

@@ -1,4 +1,5 @@
 -- What `write` does, step by step. Assumes nothing.
+use Rattle.std.specs.Prelude.{Result, Ok, Err}
 use mathlib.Core.Path.{◌≡◌, refl, sym, ap, ap₂, ◌∙◌}
 use mathlib.Core.List.{List, [], ◌∷◌, ◌++◌, append_assoc}
 use mathlib.Core.Bool.{Bool, true, false, ◌&&◌}
@@ -10,13 +11,12 @@ use lib.Seq.{sets, sets-eq, length-sets}
 use lib.Dec.{ltb}
 use borrow.Author.Tests.{lt-ltb, le-ltb, ltb-true}
 use Rattle.numbers.specs.Number.{bytes}
-use Rattle.numbers.specs.Field.{when, refusal}
+use Rattle.numbers.specs.Field.{when}
+use Rattle.numbers.specs.declared.Refusal.TheVariants as refusal
 use Rattle.numbers.proofs.Laws.{length-bytes}
 use Rattle.numbers.proofs.Chain.{is_lt, not-lt, by-true, by-false}
 use Rattle.put.specs.Put.{Wrote, wrote, put_of}
 use Rattle.put.specs.Put as put
-use Rattle.put.specs.declared.Put.{Put}
-use Rattle.put.specs.declared.Put.TheVariants.{Done, Refused}
 use Rattle.put.proofs.Placed.{done}
 use Rattle.put.proofs.Stores.{sets-append}
 use Rattle.boxes.specs.Header.{plain_bytes, header_in}
@@ -26,6 +26,7 @@ use Rattle.layout.proofs.Writes.{length-full, headed, parted}
 use Rattle.sets.specs.Sets.{filled_by}
 use Rattle.avcc.specs.Avcc.{kind, fields, sound, laid, avcc_in}
 use Rattle.avcc.specs.declared.Avcc.{Avcc}
+use Rattle.numbers.specs.declared.Refusal.{Refusal}
 
 -- WHETHER IT CAN BE WRITTEN
 
@@ -100,7 +101,7 @@ more buf x y a c at n ex ey en = ey ∙ ap₂ (λ (b : List ℕ) (n : ℕ). sets
 same-long : (buf x a : List ℕ) (at : ℕ) → x ≡ sets buf at a → length x ≡ length buf
 same-long buf x a at e = ap length e ∙ length-sets buf at a
 
-pub content-put : (m : Avcc) (s p x buf b1 b2 b3 b4 b5 : List ℕ) (q1 q2 q3 q4 q5 : Put) → 8 + length (laid m s p x) ≤ length buf → m.pps < 256 →
+pub content-put : (m : Avcc) (s p x buf b1 b2 b3 b4 b5 : List ℕ) (q1 q2 q3 q4 q5 : Result ℕ Refusal) → 8 + length (laid m s p x) ≤ length buf → m.pps < 256 →
     wrote q1 b1 ≡ put.placed (opening m) 6 8 buf → wrote q2 b2 ≡ put.placed s (length s) 14 b1 →
     wrote q3 b3 ≡ put_of 1 m.pps (14 + length s) b2 → wrote q4 b4 ≡ put.placed p (length p) (14 + length s + 1) b3 →
     wrote q5 b5 ≡ put.placed x (length x) (14 + length s + 1 + length p) b4 → b5 ≡ sets buf 8 (laid m s p x)
@@ -136,7 +137,7 @@ unfolding encode rule_of lay when bytes
 coded = refl
 
 module _ (m : Avcc) (s p x buf : List ℕ) where
-  pub unsound : sound m s p ≡ false → wrote (Refused (refusal 13 0)) buf ≡ avcc_in m s p x buf
+  pub unsound : sound m s p ≡ false → wrote (Err refusal.Unwritable) buf ≡ avcc_in m s p x buf
   unsound h = by-false _ _ _ (sound m s p) h refl
 
   module _ (hs : sound m s p ≡ true) (n1 n2 n : ℕ) (e1 : n1 ≡ min (15 + length s) (2 ^ 32)) (e2 : n2 ≡ min (n1 + length p) (2 ^ 32)) (e3 : n ≡ min (n2 + length x) (2 ^ 32)) where
@@ -154,7 +155,7 @@ module _ (m : Avcc) (s p x buf : List ℕ) where
     unfolding all
     so z q = by-true _ _ _ (sound m s p) hs (q ∙ ap (placed kind (laid m s p x) buf) (sym coded))
 
-    pub too_long : 2 ^ 32 - 1 < n → wrote (Refused (refusal 13 0)) buf ≡ avcc_in m s p x buf
+    pub too_long : 2 ^ 32 - 1 < n → wrote (Err refusal.Unwritable) buf ≡ avcc_in m s p x buf
     too_long h = so _ (is_lt _ _ _ (2 ^ 32 - 1) (length all) (omega (arith, is-long)) refl)
 
     module _ (h : n ≤ 2 ^ 32 - 1) where
@@ -164,13 +165,13 @@ module _ (m : Avcc) (s p x buf : List ℕ) where
       pub content-in : n ≤ length buf → 8 + length (laid m s p x) ≤ length buf
       content-in b = omega (arith, same, long)
 
-      pub too_small : length buf < n → wrote (Refused (refusal 12 n)) buf ≡ avcc_in m s p x buf
+      pub too_small : length buf < n → wrote (Err (refusal.TooSmall n)) buf ≡ avcc_in m s p x buf
       too_small b =
           so _ (not-lt _ _ _ (2 ^ 32 - 1) (length all) (omega (arith, same))
-          (is_lt _ _ _ (length buf) (length all) (omega (arith, same)) (ap (λ n. wrote (Refused (refusal 12 n)) buf) same)))
+          (is_lt _ _ _ (length buf) (length all) (omega (arith, same)) (ap (λ n. wrote (Err (refusal.TooSmall n)) buf) same)))
 
-      pub all-put : n ≤ length buf → (b1 b2 : List ℕ) (q : Put) → wrote q b1 ≡ header_in kind n 0 buf → b2 ≡ sets b1 8 (laid m s p x) →
-          wrote (Done n) b2 ≡ avcc_in m s p x buf
+      pub all-put : n ≤ length buf → (b1 b2 : List ℕ) (q : Result ℕ Refusal) → wrote q b1 ≡ header_in kind n 0 buf → b2 ≡ sets b1 8 (laid m s p x) →
+          wrote (Ok n) b2 ≡ avcc_in m s p x buf
       unfolding all
       all-put b b1 b2 q f1 f2 =
           let head = plain_bytes kind n in
@@ -183,7 +184,7 @@ module _ (m : Avcc) (s p x buf : List ℕ) where
           t2 ∙ ap (sets buf 0) ea ∙ sets-eq all buf 0 (let f : 0 + length all ≤ length buf = omega (arith, same) in f)
           ∙ ap (λ k. all ++ drop k buf) (zero-add (length all)) in
           so _ (not-lt _ _ _ (2 ^ 32 - 1) (length all) (omega (arith, same))
-          (not-lt _ _ _ (length buf) (length all) (omega (arith, same)) (ap₂ (λ (n : ℕ) (b : List ℕ). wrote (Done n) b) same t4)))
+          (not-lt _ _ _ (length buf) (length all) (omega (arith, same)) (ap₂ (λ (n : ℕ) (b : List ℕ). wrote (Ok n) b) same t4)))
         where
           nothing-between : (i : ℕ) → bytes 4 i ++ bytes 4 kind ++ laid m s p x ≡ bytes 4 i ++ bytes 4 kind ++ [] ++ laid m s p x
           nothing-between i = simp append_assoc

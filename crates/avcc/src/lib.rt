@@ -1,4 +1,4 @@
-#![tactic(auto)]
+#![tactic(auto, unfolding(numbers::specs::Field::when, numbers::specs::Field::field))]
 // The configuration of an AVC decoder (ISO/IEC 14496-15, 5.3.3.1): six bytes, the sequence parameter sets, a byte with
 // the number of the picture parameter sets, those, and the extension of the high profiles, which is the rest of the box.
 ghost use Rattle.std.specs.Prelude.{◌≡◌, ◌+◌, ◌≤◌, min, ◌^◌, length};
@@ -8,8 +8,7 @@ ghost use Rattle.avcc.specs.Avcc.{head_of, content_of, avcc_of, sound, laid, avc
 
 use boxes::header;
 use layout::Field;
-use numbers::{Refusal, U8};
-use put::Put;
+use numbers::Refusal;
 
 // `length_size` is the size of a sample's lengths less one; `sps` and `pps` are how many sets there are.
 #[derive(Clone, Copy)]
@@ -32,19 +31,6 @@ pub struct Places {
     pub end: usize,
 }
 
-#[derive(Clone, Copy)]
-pub enum Found {
-    Is(Avcc, Places),
-    Refused(Refusal),
-}
-
-// The profile, its compatibility, the level, the size of lengths less one, and the number of sequence parameter sets.
-#[derive(Clone, Copy)]
-pub(crate) enum Head {
-    Is(u8, u8, u8, u8, u8),
-    Refused(Refusal),
-}
-
 pub const KIND: u32 = 0x61766343;
 
 // No field: what lies behind the header is read here.
@@ -53,111 +39,55 @@ pub const ROW: [Field; 24] = [Field::Nothing; 24];
 // READING
 
 // The first six bytes behind the header. The bits above the size of lengths and above the number are reserved.
-fn head_at(b: &[u8], at: usize) -> Head
+fn head_at(b: &[u8], at: usize) -> Result<(u8, u8, u8, u8, u8), Refusal>
     ensures { result ≡ head_of b.now at }
 {
-    let U8::Is(version) = numbers::u8_at(b, at) else {
-        return Head::Refused(Refusal {
-            number: 1,
-            detail: at,
-        });
-    };
+    let version = numbers::read::<u8>(b, at)?;
     if version != 1 {
-        return Head::Refused(Refusal {
-            number: 8,
-            detail: at,
-        });
+        return Err(Refusal::Value(at));
     }
-    let U8::Is(profile) = numbers::u8_at(b, at + 1) else {
-        return Head::Refused(Refusal {
-            number: 1,
-            detail: at + 1,
-        });
-    };
-    let U8::Is(compatibility) = numbers::u8_at(b, at + 2) else {
-        return Head::Refused(Refusal {
-            number: 1,
-            detail: at + 2,
-        });
-    };
-    let U8::Is(level) = numbers::u8_at(b, at + 3) else {
-        return Head::Refused(Refusal {
-            number: 1,
-            detail: at + 3,
-        });
-    };
-    let U8::Is(size) = numbers::u8_at(b, at + 4) else {
-        return Head::Refused(Refusal {
-            number: 1,
-            detail: at + 4,
-        });
-    };
-    let U8::Is(count) = numbers::u8_at(b, at + 5) else {
-        return Head::Refused(Refusal {
-            number: 1,
-            detail: at + 5,
-        });
-    };
+    let profile = numbers::read::<u8>(b, at + 1)?;
+    let compatibility = numbers::read::<u8>(b, at + 2)?;
+    let level = numbers::read::<u8>(b, at + 3)?;
+    let size = numbers::read::<u8>(b, at + 4)?;
+    let count = numbers::read::<u8>(b, at + 5)?;
     let length_size = size % 4;
     let sps = count % 32;
-    Head::Is(profile, compatibility, level, length_size, sps)
+    Ok((profile, compatibility, level, length_size, sps))
 }
 
 // What lies behind the header, up to the box's end.
-fn content(b: &[u8], at: usize) -> Found
+fn content(b: &[u8], at: usize) -> Result<(Avcc, Places), Refusal>
     ensures { result ≡ content_of b.now at }
 {
-    match head_at(b, at) {
-        Head::Refused(q) => Found::Refused(q),
-        Head::Is(profile, compatibility, level, length_size, sps) => {
-            let first = at + 6;
-            match sets::end_of(b, first, sps as usize) {
-                sets::Found::Refused(q) => Found::Refused(q),
-                sets::Found::End(sps_end) => {
-                    let U8::Is(pps) = numbers::u8_at(b, sps_end) else {
-                        return Found::Refused(Refusal {
-                            number: 1,
-                            detail: sps_end,
-                        });
-                    };
-                    let second = sps_end + 1;
-                    match sets::end_of(b, second, pps as usize) {
-                        sets::Found::Refused(q) => Found::Refused(q),
-                        sets::Found::End(pps_end) => {
-                            let avcc = Avcc {
-                                profile: profile,
-                                compatibility: compatibility,
-                                level: level,
-                                length_size: length_size,
-                                sps: sps,
-                                pps: pps,
-                            };
-                            let places = Places {
-                                sps: first,
-                                sps_end: sps_end,
-                                pps: second,
-                                pps_end: pps_end,
-                                end: b.len(),
-                            };
-                            Found::Is(avcc, places)
-                        }
-                    }
-                }
-            }
-        }
-    }
+    let (profile, compatibility, level, length_size, sps) = head_at(b, at)?;
+    let first = at + 6;
+    let sps_end = sets::end_of(b, first, sps as usize)?;
+    let pps = numbers::read::<u8>(b, sps_end)?;
+    let second = sps_end + 1;
+    let pps_end = sets::end_of(b, second, pps as usize)?;
+    let avcc = Avcc {
+        profile,
+        compatibility,
+        level,
+        length_size,
+        sps,
+        pps,
+    };
+    let places = Places {
+        sps: first,
+        sps_end,
+        pps: second,
+        pps_end,
+        end: b.len(),
+    };
+    Ok((avcc, places))
 }
 
-pub fn read(part: &[u8]) -> Found
+pub fn read(part: &[u8]) -> Result<(Avcc, Places), Refusal>
     ensures { result ≡ avcc_of part.now }
 {
-    let got = layout::read::by(part, KIND, ROW);
-    if got.number != 0 {
-        return Found::Refused(Refusal {
-            number: got.number,
-            detail: got.place,
-        });
-    }
+    let got = layout::read::by(part, KIND, ROW)?;
     let place = got.place;
     let end = got.end;
     content(&part[..end], place)
@@ -200,41 +130,38 @@ fn put_content(out: &mut [u8], avcc: Avcc, sps_list: &[u8], pps_list: &[u8], ext
     let size = 252 + avcc.length_size;
     let count = 224 + avcc.sps;
     let head = [1, avcc.profile, avcc.compatibility, avcc.level, size, count];
-    put::part(out, 8, &head[..6]);
-    put::part(out, 14, sps_list);
+    let _ = put::part(out, 8, &head[..6]);
+    let _ = put::part(out, 14, sps_list);
     let first = 14 + sps_list.len();
-    put::u8_at(out, first, avcc.pps);
+    let _ = put::write::<u8>(out, first, avcc.pps);
     let second = first + 1;
-    put::part(out, second, pps_list);
+    let _ = put::part(out, second, pps_list);
     let last = second + pps_list.len();
-    put::part(out, last, extension);
+    let _ = put::part(out, last, extension);
 }
 
 // The lists are lent with the lengths of their sets; `sets::put_set` makes them.
-pub fn write(avcc: Avcc, sps_list: &[u8], pps_list: &[u8], extension: &[u8], out: &mut [u8]) -> Put
+pub fn write(
+    avcc: Avcc,
+    sps_list: &[u8],
+    pps_list: &[u8],
+    extension: &[u8],
+    out: &mut [u8],
+) -> Result<usize, Refusal>
     ensures { wrote result out.new ≡ avcc_in avcc sps_list.now pps_list.now extension.now out.old }
 {
     if !is_sound(avcc, sps_list, pps_list) {
-        return Put::Refused(Refusal {
-            number: 13,
-            detail: 0,
-        });
+        return Err(Refusal::Unwritable);
     }
     let lists = capped(capped(15, sps_list.len()), pps_list.len());
     let total = capped(lists, extension.len());
     if 0xffff_ffff < total {
-        return Put::Refused(Refusal {
-            number: 13,
-            detail: 0,
-        });
+        return Err(Refusal::Unwritable);
     }
     if out.len() < total {
-        return Put::Refused(Refusal {
-            number: 12,
-            detail: total,
-        });
+        return Err(Refusal::TooSmall(total));
     }
-    header::write(out, 0, KIND, total);
+    let _ = header::write(out, 0, KIND, total);
     put_content(out, avcc, sps_list, pps_list, extension);
-    Put::Done(total)
+    Ok(total)
 }

@@ -1,16 +1,14 @@
-#![tactic(auto)]
+#![tactic(auto, unfolding(numbers::specs::Field::when, numbers::specs::Field::field))]
 // The parameter sets of an AVC decoder's configuration (`avcc`) and its extension, each lent where it lies.
 ghost use Rattle.std.specs.Prelude.{◌≡◌};
 ghost use Rattle.avcc.specs.Avcc.{sps_list_of, pps_list_of, extension_of, sps_of, pps_of};
-
-use avcc::Found;
 
 // The sequence parameter sets with their lengths, as the part of the box where they lie; no bytes where the box is
 // refused.
 pub fn sps_list(part: &[u8]) -> &[u8]
     ensures { result.now ≡ sps_list_of part.now }
 {
-    let Found::Is(_, places) = avcc::read(part) else {
+    let Ok((_, places)) = avcc::read(part) else {
         return &part[..0];
     };
     let from = places.sps;
@@ -22,7 +20,7 @@ pub fn sps_list(part: &[u8]) -> &[u8]
 pub fn pps_list(part: &[u8]) -> &[u8]
     ensures { result.now ≡ pps_list_of part.now }
 {
-    let Found::Is(_, places) = avcc::read(part) else {
+    let Ok((_, places)) = avcc::read(part) else {
         return &part[..0];
     };
     let from = places.pps;
@@ -34,7 +32,7 @@ pub fn pps_list(part: &[u8]) -> &[u8]
 pub fn extension(part: &[u8]) -> &[u8]
     ensures { result.now ≡ extension_of part.now }
 {
-    let Found::Is(_, places) = avcc::read(part) else {
+    let Ok((_, places)) = avcc::read(part) else {
         return &part[..0];
     };
     let from = places.pps_end;

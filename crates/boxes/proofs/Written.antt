@@ -1,4 +1,5 @@
 -- Numbers written one after the other are one run of bytes. Assumes nothing.
+use Rattle.std.specs.Prelude.{Result, Ok}
 use mathlib.Core.Path.{◌≡◌, refl, sym, ap, ap₂, ◌∙◌}
 use mathlib.Core.List.{List, [], ◌∷◌, ◌++◌}
 use Prim.Native.Nat.{ℕ, zero, suc, ◌+◌, ◌*◌, ◌/◌, ◌%◌, ◌^◌, ◌≤◌, ◌<◌}
@@ -8,14 +9,13 @@ use lib.Pow.{pow-add}
 use lib.ListN.{length, set}
 use lib.Seq.{sets, length-sets}
 use Rattle.numbers.specs.Number.{bytes}
-use Rattle.numbers.specs.Field.{refusal, when, widest}
+use Rattle.numbers.specs.Field.{when, widest}
 use Rattle.numbers.proofs.Laws.{bytes-join, length-bytes}
 use Rattle.numbers.proofs.Chain.{is_le, not-le, is_lt, not-lt}
 use Rattle.put.specs.Put.{Wrote, wrote, placed, put_of}
 use Rattle.put.proofs.Stores.{sets-append}
 use Rattle.put.proofs.Placed.{done}
-use Rattle.put.specs.declared.Put.{Put}
-use Rattle.put.specs.declared.Put.TheVariants.{Done, Refused}
+use Rattle.numbers.specs.declared.Refusal.{Refusal}
 
 below : (m n a b : ℕ) → a < 256 ^ m → b < 256 ^ n → a * 256 ^ n + b < 256 ^ (m + n)
 below m n a b h g =
@@ -29,12 +29,14 @@ as_one m n a b at buf l h g =
     sym (is_le _ _ _ (m + n) widest l (is_lt _ _ _ (a * 256 ^ n + b) (256 ^ (m + n)) (below m n a b h g) (ap (λ s. placed s (m + n) at buf) (sym (bytes-join m n a b g)))))
 
 -- two numbers of 8 bytes, the second after the first
-pub two : (x y at : ℕ) (buf one-after two-after : List ℕ) (r q : Put) → x < 256 ^ 8 → y < 256 ^ 8 → at + 16 ≤ length buf → wrote r one-after ≡ put_of 8 x at buf → wrote q two-after ≡ put_of 8 y (at + 8) one-after →
-    wrote (Done (at + 16)) two-after ≡ placed (bytes 8 x ++ bytes 8 y) 16 at buf
+pub two : (x y at : ℕ) (buf one-after two-after : List ℕ) (r q : Result ℕ Refusal) → x < 256 ^ 8 → y < 256 ^ 8 → at + 16 ≤ length buf → wrote r one-after ≡ put_of 8 x at buf → wrote q two-after ≡ put_of 8 y (at + 8) one-after →
+    wrote q two-after ≡ placed (bytes 8 x ++ bytes 8 y) 16 at buf
 two x y at buf one-after two-after r q a b h e f =
     let first : one-after ≡ sets buf at (bytes 8 x) = cc (e ∙ sym (done 8 x at buf (omega arith) a (omega arith))) in
     let long : length one-after ≡ length buf = ap length first ∙ length-sets buf at (bytes 8 x) in
     let second : two-after ≡ sets one-after (at + 8) (bytes 8 y) = cc (f ∙ sym (done 8 y (at + 8) one-after (omega arith) b (omega arith))) in
     let both : two-after ≡ sets buf at (bytes 8 x ++ bytes 8 y) =
     second ∙ ap (λ s. sets s (at + 8) (bytes 8 y)) first ∙ ap (λ k. sets (sets buf at (bytes 8 x)) (at + k) (bytes 8 y)) (sym (length-bytes 8 x)) ∙ sets-append buf at (bytes 8 x) (bytes 8 y) in
-    is_le _ _ _ (at + 16) (length buf) h (ap (wrote (Done (at + 16))) both)
+    let told : q ≡ Ok (at + 8 + 8) = cc (f ∙ sym (done 8 y (at + 8) one-after (omega arith) b (omega arith))) in
+    let there : at + 8 + 8 ≡ at + 16 = omega arith in
+    is_le _ _ _ (at + 16) (length buf) h (ap₂ (λ (r : Result ℕ Refusal) (l : List ℕ). wrote r l) (told ∙ ap Ok there) both)

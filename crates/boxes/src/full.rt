@@ -3,8 +3,7 @@ ghost use Rattle.std.specs.Prelude.{◌≡◌};
 ghost use Rattle.put.specs.Put.{wrote};
 ghost use Rattle.boxes.specs.Full.{full_of, full_in};
 
-use numbers::{Refusal, U8, U32};
-use put::Put;
+use numbers::{Refusal, U24};
 
 #[derive(Clone, Copy)]
 pub struct Full {
@@ -12,42 +11,20 @@ pub struct Full {
     pub flags: u32,
 }
 
-#[derive(Clone, Copy)]
-pub enum Found {
-    Is(Full),
-    Refused(Refusal),
-}
-
-pub fn read(s: &[u8], at: usize) -> Found
+pub fn read(s: &[u8], at: usize) -> Result<Full, Refusal>
     ensures { result ≡ full_of s.now at }
 {
-    let U8::Is(version) = numbers::u8_at(s, at) else {
-        return Found::Refused(Refusal {
-            number: 1,
-            detail: at,
-        });
-    };
-    let U32::Is(flags) = numbers::u24_at(s, at + 1) else {
-        return Found::Refused(Refusal {
-            number: 1,
-            detail: at + 1,
-        });
-    };
-    Found::Is(Full {
-        version: version,
-        flags: flags,
-    })
+    let version = numbers::read::<u8>(s, at)?;
+    let U24(flags) = numbers::read(s, at + 1)?;
+    Ok(Full { version, flags })
 }
 
 // 13 where the flags have more than 24 bits.
-pub fn write(out: &mut [u8], at: usize, version: u8, flags: u32) -> Put
+pub fn write(out: &mut [u8], at: usize, version: u8, flags: u32) -> Result<usize, Refusal>
     ensures { wrote result out.new ≡ full_in version flags at out.old }
 {
     if flags < 0x100_0000 {
-        return put::u32_at(out, at, (version as u32) * 0x100_0000 + flags);
+        return put::write::<u32>(out, at, (version as u32) * 0x100_0000 + flags);
     }
-    Put::Refused(Refusal {
-        number: 13,
-        detail: 0,
-    })
+    Err(Refusal::Unwritable)
 }

@@ -1,10 +1,9 @@
 // A box's header: size and type, and a 64-bit size where the size is 1.
-ghost use Rattle.std.specs.Prelude.{◌≡◌, ◌+◌, ◌-◌, ◌≤◌, length};
+ghost use Rattle.std.specs.Prelude.{◌≡◌, ◌+◌, ◌≤◌, length, Ok};
 ghost use Rattle.put.specs.Put.{wrote, placed};
 ghost use Rattle.boxes.specs.Header.{within, typed_of, large_of, header_of, plain_bytes, large_bytes, header_in};
 
-use numbers::{Refusal, U32, U64};
-use put::Put;
+use numbers::Refusal;
 
 #[derive(Clone, Copy)]
 pub struct Header {
@@ -16,143 +15,95 @@ pub struct Header {
     pub length: usize,
 }
 
-#[derive(Clone, Copy)]
-pub enum Found {
-    Is(Header),
-    Refused(Refusal),
-}
-
-// How many bytes there are from `at` on.
-fn room(s: &[u8], at: usize) -> usize
-    ensures { result ≡ length s.now - at }
+// A size that neither passes the parent nor is smaller than the header. At one position Cut wins over Size.
+fn check_size(s: &[u8], at: usize, size: usize, least: usize) -> Result<(), Refusal>
+    ensures { result ≡ within s.now at size least (Ok tt) }
 {
-    if at <= s.len() { s.len() - at } else { 0 }
-}
-
-// What was found, where the size neither passes the parent nor is smaller than the header. At one position 1 wins over 2.
-fn judged(s: &[u8], at: usize, size: usize, least: usize, found: Found) -> Found
-    ensures { result ≡ within s.now at size least found }
-{
-    if room(s, at) < size {
-        return Found::Refused(Refusal {
-            number: 1,
-            detail: at,
-        });
+    if s.len().saturating_sub(at) < size {
+        return Err(Refusal::Cut(at));
     }
     if size < least {
-        return Found::Refused(Refusal {
-            number: 2,
-            detail: at,
-        });
+        return Err(Refusal::Size(at));
     }
-    found
+    Ok(())
 }
 
 // A header of 8 bytes, whose size is known.
-fn typed(s: &[u8], at: usize, size: usize) -> Found
+fn typed(s: &[u8], at: usize, size: usize) -> Result<Header, Refusal>
     requires { at + 4 ≤ length s.now }
     ensures { result ≡ typed_of s.now at size }
 {
-    match numbers::u32_at(s, at + 4) {
-        U32::Refused(r) => Found::Refused(r),
-        U32::Is(kind) => Found::Is(Header {
-            kind: kind,
-            size: size,
-            length: 8,
-        }),
-    }
+    let kind = numbers::read::<u32>(s, at + 4)?;
+    Ok(Header {
+        kind,
+        size,
+        length: 8,
+    })
 }
 
 // A header of 16 bytes, with the size in 64 bits.
-fn large(s: &[u8], at: usize) -> Found
+fn large(s: &[u8], at: usize) -> Result<Header, Refusal>
     requires { at + 4 ≤ length s.now }
     ensures { result ≡ large_of s.now at }
 {
-    let U32::Is(kind) = numbers::u32_at(s, at + 4) else {
-        return Found::Refused(Refusal {
-            number: 1,
-            detail: at + 4,
-        });
-    };
-    let U64::Is(n) = numbers::u64_at(s, at + 8) else {
-        return Found::Refused(Refusal {
-            number: 1,
-            detail: at + 8,
-        });
-    };
+    let kind = numbers::read::<u32>(s, at + 4)?;
+    let n = numbers::read::<u64>(s, at + 8)?;
     let size = n as usize;
-    let header = Header {
-        kind: kind,
-        size: size,
+    check_size(s, at, size, 16)?;
+    Ok(Header {
+        kind,
+        size,
         length: 16,
-    };
-    judged(s, at, size, 16, Found::Is(header))
+    })
 }
 
 // The header at `at` of a box that must end where s does, or before. Only a box at the top may have size 0.
-pub fn read(s: &[u8], at: usize, top: bool) -> Found
+pub fn read(s: &[u8], at: usize, top: bool) -> Result<Header, Refusal>
     ensures { result ≡ header_of s.now at top }
 {
-    let U32::Is(n) = numbers::u32_at(s, at) else {
-        return Found::Refused(Refusal {
-            number: 1,
-            detail: at,
-        });
-    };
+    let n = numbers::read::<u32>(s, at)?;
     if n == 1 {
         return large(s, at);
     }
     if n == 0 {
         if top {
-            return typed(s, at, room(s, at));
+            return typed(s, at, s.len().saturating_sub(at));
         }
-        return Found::Refused(Refusal {
-            number: 2,
-            detail: at,
-        });
+        return Err(Refusal::Size(at));
     }
     let size = n as usize;
-    judged(s, at, size, 8, typed(s, at, size))
+    check_size(s, at, size, 8)?;
+    typed(s, at, size)
 }
 
 // 8 bytes: the size and the type.
-fn write_plain(out: &mut [u8], at: usize, kind: u32, size: u32) -> Put
+fn write_plain(out: &mut [u8], at: usize, kind: u32, size: u32) -> Result<usize, Refusal>
     ensures { wrote result out.new ≡ placed (plain_bytes kind size) 8 at out.old }
 {
-    put::u64_at(out, at, (size as u64) * 0x1_0000_0000 + (kind as u64))
+    put::write::<u64>(out, at, (size as u64) * 0x1_0000_0000 + (kind as u64))
 }
 
 // 16 bytes: 1, the type and the size. There is room for all of them before the first is written.
-fn write_large(out: &mut [u8], at: usize, kind: u32, size: usize) -> Put
+fn write_large(out: &mut [u8], at: usize, kind: u32, size: usize) -> Result<usize, Refusal>
     ensures { wrote result out.new ≡ placed (large_bytes kind size) 16 at out.old }
 {
     if 0xffff_ffff_ffff_ffff - 16 < at {
-        return Put::Refused(Refusal {
-            number: 9,
-            detail: 0,
-        });
+        return Err(Refusal::Overflow);
     }
     let end = at + 16;
     if out.len() < end {
-        return Put::Refused(Refusal {
-            number: 12,
-            detail: end,
-        });
+        return Err(Refusal::TooSmall(end));
     }
-    put::u64_at(out, at, 0x1_0000_0000 + (kind as u64));
-    put::u64_at(out, at + 8, size as u64);
-    Put::Done(end)
+    put::write::<u64>(out, at, 0x1_0000_0000 + (kind as u64))?;
+    put::write::<u64>(out, at + 8, size as u64)
 }
 
 // The header of a box of this type and size, at `at`.
-pub fn write(out: &mut [u8], at: usize, kind: u32, size: usize) -> Put
+pub fn write(out: &mut [u8], at: usize, kind: u32, size: usize) -> Result<usize, Refusal>
     ensures { wrote result out.new ≡ header_in kind size at out.old }
 {
     if size < 8 {
-        return Put::Refused(Refusal {
-            number: 13,
-            detail: 0,
-        });
+        return Err(Refusal::Unwritable);
     }
     if size < 0x1_0000_0000 {
         return write_plain(out, at, kind, size as u32);

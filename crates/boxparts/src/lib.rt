@@ -1,34 +1,27 @@
-#![tactic(auto)]
+#![tactic(auto, unfolding(numbers::specs::Field::when, numbers::specs::Field::field))]
 // A box in bytes that are boxes, as the part of them where it lies: the first of a type, or one by its number.
 ghost use Rattle.std.specs.Prelude.{◌≡◌, length, false};
 ghost use Rattle.boxes.specs.Header.{header_of};
 ghost use Rattle.children.specs.Children.{row_of, boxed, nth_in, child_of, nth_of};
 
 use boxes::header;
-use boxes::header::Found;
-use children::Child;
+use numbers::Refusal;
 
 // The box that is `i` boxes behind the first byte.
-fn nth_place(s: &[u8], i: u32) -> Child
+fn nth_place(s: &[u8], i: u32) -> Result<Option<usize>, Refusal>
     ensures { result ≡ nth_in i (row_of (length s.now) s.now 0) }
 {
     let mut place = 0;
     let mut left = i;
     while place < s.len() {
-        match header::read(s, place, false) {
-            Found::Refused(fault) => {
-                return Child::Refused(fault);
-            }
-            Found::Is(h) => {
-                if left == 0 {
-                    return Child::At(place);
-                }
-                left = left - 1;
-                place = place + h.size;
-            }
+        let h = header::read(s, place, false)?;
+        if left == 0 {
+            return Ok(Some(place));
         }
+        left = left - 1;
+        place = place + h.size;
     }
-    Child::Absent
+    Ok(None)
 }
 
 // The bytes of the box at `at`, from its header to its end; no bytes where its header is refused.
@@ -36,11 +29,11 @@ fn box_at(s: &[u8], at: usize) -> &[u8]
     ensures { result.now ≡ boxed s.now at (header_of s.now at false) }
 {
     match header::read(s, at, false) {
-        Found::Is(h) => {
+        Ok(h) => {
             let size = h.size;
             parts::part(s, at, size)
         }
-        Found::Refused(_) => &s[..0],
+        Err(_) => &s[..0],
     }
 }
 
@@ -50,9 +43,9 @@ pub fn first_box(s: &[u8], kind: u32) -> &[u8]
     ensures { result.now ≡ child_of kind s.now }
 {
     match children::first_from(s, 0, kind) {
-        Child::At(p) => box_at(s, p),
-        Child::Absent => &s[..0],
-        Child::Refused(_) => &s[..0],
+        Ok(Some(p)) => box_at(s, p),
+        Ok(None) => &s[..0],
+        Err(_) => &s[..0],
     }
 }
 
@@ -61,8 +54,8 @@ pub fn nth_box(s: &[u8], i: u32) -> &[u8]
     ensures { result.now ≡ nth_of i s.now }
 {
     match nth_place(s, i) {
-        Child::At(place) => box_at(s, place),
-        Child::Absent => &s[..0],
-        Child::Refused(_) => &s[..0],
+        Ok(Some(place)) => box_at(s, place),
+        Ok(None) => &s[..0],
+        Err(_) => &s[..0],
     }
 }

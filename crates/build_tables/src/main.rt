@@ -11,9 +11,7 @@ ghost use Rattle.std.specs.Prelude.{◌≡◌, ◌≤◌, length};
 mod say;
 mod table;
 
-use numbers::{U32, U64};
 use samples::Sample;
-use signed::I32;
 use std::io::Read;
 
 // How many samples a list has at most, and how many bytes each.
@@ -25,16 +23,16 @@ const ROW: usize = 24;
 const LATE: u64 = 0x8000_0000_0000_0000;
 
 fn four(row: &[u8], at: usize) -> u32 {
-    match numbers::u32_at(row, at) {
-        U32::Is(n) => n,
-        U32::Refused(_) => 0,
+    match numbers::read::<u32>(row, at) {
+        Ok(n) => n,
+        Err(_) => 0,
     }
 }
 
 fn eight(row: &[u8], at: usize) -> u64 {
-    match numbers::u64_at(row, at) {
-        U64::Is(n) => n,
-        U64::Refused(_) => 0,
+    match numbers::read::<u64>(row, at) {
+        Ok(n) => n,
+        Err(_) => 0,
     }
 }
 
@@ -43,18 +41,18 @@ fn widened(n: i32) -> i64 {
 }
 
 fn shift(row: &[u8], at: usize) -> i64 {
-    match signed::i32_at(row, at) {
-        I32::Is(n) => widened(n),
-        I32::Refused(_) => 0,
+    match signed::read::<i32>(row, at) {
+        Ok(n) => widened(n),
+        Err(_) => 0,
     }
 }
 
 fn sample(row: &[u8], number: u32, time: u64) -> Sample {
     Sample {
-        number: number,
+        number,
         offset: eight(row, 0),
         size: four(row, 8),
-        time: time,
+        time,
         duration: four(row, 12),
         composition: shift(row, 16),
         sync: four(row, 20) != 0,

@@ -1,6 +1,5 @@
 // The words of a line, and parts of what is lent.
 use numbers::Refusal;
-use put::Put;
 
 pub(crate) fn text(rt: &impl Print, s: &[u8]) {
     let _ = rt.write_all(s);
@@ -42,16 +41,16 @@ pub(crate) fn absent(rt: &impl Print, name: &[u8]) {
 pub(crate) fn refused(rt: &impl Print, name: &[u8], q: Refusal) {
     text(rt, name);
     text(rt, b"\trefused");
-    number(rt, q.number as u64);
-    number(rt, q.detail as u64);
+    number(rt, u64::from(q.code()));
+    number(rt, q.detail() as u64);
     text(rt, b"\n");
 }
 
 // The box that a writer put at the start of `out`.
-pub(crate) fn written(rt: &impl Print, name: &[u8], put: Put, out: &[u8]) {
+pub(crate) fn written(rt: &impl Print, name: &[u8], put: Result<usize, Refusal>, out: &[u8]) {
     match put {
-        Put::Refused(q) => refused(rt, name, q),
-        Put::Done(n) => {
+        Err(q) => refused(rt, name, q),
+        Ok(n) => {
             text(rt, name);
             text(rt, b"\t");
             digits(rt, part(out, 0, n));

@@ -2,7 +2,6 @@
 use crate::say;
 use co64::Co64;
 use ctts::Ctts;
-use put::Put;
 use stco::Stco;
 use stsc::Stsc;
 use stss::Stss;
@@ -21,8 +20,8 @@ fn count(length: usize, each: usize) -> u32 {
 
 pub(crate) fn stts(rt: &impl Print, records: &[u64], n: u32, entries: &mut [u8], out: &mut [u8]) {
     match builder::stts::entries(records, n as usize, entries) {
-        Put::Refused(q) => say::refused(rt, b"stts", q),
-        Put::Done(length) => {
+        Err(q) => say::refused(rt, b"stts", q),
+        Ok(length) => {
             let stts = Stts {
                 version: 0,
                 flags: 0,
@@ -37,8 +36,8 @@ pub(crate) fn stts(rt: &impl Print, records: &[u64], n: u32, entries: &mut [u8],
 // Absent where it has no entry (A57).
 pub(crate) fn ctts(rt: &impl Print, records: &[u64], n: u32, entries: &mut [u8], out: &mut [u8]) {
     match builder::ctts::entries(records, n as usize, entries) {
-        Put::Refused(q) => say::refused(rt, b"ctts", q),
-        Put::Done(length) => {
+        Err(q) => say::refused(rt, b"ctts", q),
+        Ok(length) => {
             if length == 0 {
                 say::absent(rt, b"ctts");
                 return;
@@ -63,8 +62,8 @@ pub(crate) fn stsc(
     out: &mut [u8],
 ) {
     match chunking_stsc::entries(records, n as usize, timescale, entries) {
-        Put::Refused(q) => say::refused(rt, b"stsc", q),
-        Put::Done(length) => {
+        Err(q) => say::refused(rt, b"stsc", q),
+        Ok(length) => {
             let stsc = Stsc {
                 version: 0,
                 flags: 0,
@@ -78,8 +77,8 @@ pub(crate) fn stsc(
 
 pub(crate) fn stsz(rt: &impl Print, records: &[u64], n: u32, entries: &mut [u8], out: &mut [u8]) {
     match builder_stsz::entries(records, n as usize, entries) {
-        Put::Refused(q) => say::refused(rt, b"stsz", q),
-        Put::Done(length) => {
+        Err(q) => say::refused(rt, b"stsz", q),
+        Ok(length) => {
             let stsz = Stsz {
                 version: 0,
                 flags: 0,
@@ -122,8 +121,8 @@ pub(crate) fn offsets(
     out: &mut [u8],
 ) {
     match chunking_offsets::entries(records, n as usize, timescale, entries) {
-        Put::Refused(q) => say::refused(rt, b"stco", q),
-        Put::Done(length) => {
+        Err(q) => say::refused(rt, b"stco", q),
+        Ok(length) => {
             if chunking_offsets::wide(records, n as usize, timescale) {
                 co64(rt, say::part(entries, 0, length), out);
             } else {
@@ -140,8 +139,8 @@ pub(crate) fn stss(rt: &impl Print, records: &[u64], n: u32, entries: &mut [u8],
         return;
     }
     match builder_stss::entries(records, n as usize, entries) {
-        Put::Refused(q) => say::refused(rt, b"stss", q),
-        Put::Done(length) => {
+        Err(q) => say::refused(rt, b"stss", q),
+        Ok(length) => {
             let stss = Stss {
                 version: 0,
                 flags: 0,

@@ -1,5 +1,5 @@
 pub mod Fills
-pub mod Answers
+pub mod Says
 pub mod Back
 pub mod Bytes
 mod Vectors

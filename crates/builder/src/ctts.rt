@@ -5,24 +5,24 @@ ghost use Rattle.put.specs.Put.{wrote};
 ghost use Rattle.builder.specs.Built.{ctts_of};
 
 use crate::pairs::built;
-use columns::{Rule, refuse};
-use put::Put;
+use columns::Rule;
+use numbers::Refusal;
 
 // The entries of ctts for the first n records, and their length: 0 where the box is absent.
-pub fn entries(records: &[u64], n: usize, out: &mut [u8]) -> Put
+pub fn entries(records: &[u64], n: usize, out: &mut [u8]) -> Result<usize, Refusal>
     ensures { wrote result out.new ≡ ctts_of records.now n out.old }
 {
     if !columns::has(records, n) {
-        return refuse(11, n);
+        return Err(Refusal::NoSample(n));
     }
     if columns::MANY < n {
-        return refuse(13, 0);
+        return Err(Refusal::Unwritable);
     }
     if !columns::all_right(records, n, columns::COMPOSITION, Rule::Signed) {
-        return refuse(13, 0);
+        return Err(Refusal::Unwritable);
     }
     if columns::all_right(records, n, columns::COMPOSITION, Rule::Zero) {
-        return Put::Done(0);
+        return Ok(0);
     }
     built(records, n, columns::COMPOSITION, out)
 }

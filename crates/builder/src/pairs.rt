@@ -5,9 +5,8 @@ ghost use Rattle.merging.specs.Merging.{rows_of};
 ghost use Rattle.columns.specs.Entries.{placed_of, Filled, Emitted};
 ghost use Rattle.builder.specs.Built.{pairs_of, runs_of};
 
-use columns::refuse;
 use merging::{Open, Step};
-use put::Put;
+use numbers::Refusal;
 
 // The run that a step closed, if any, as the k-th number and the next; and the place after it.
 fn put_closed(out: &mut [u8], k: usize, step: Step) -> usize
@@ -54,15 +53,20 @@ fn walk(records: &[u64], n: usize, column: usize) -> usize
 }
 
 // The pairs of a column at the buffer's start; or 12.
-pub(crate) fn built(records: &[u64], n: usize, column: usize, out: &mut [u8]) -> Put
+pub(crate) fn built(
+    records: &[u64],
+    n: usize,
+    column: usize,
+    out: &mut [u8],
+) -> Result<usize, Refusal>
     requires { n < 2 ^ 32 }
     ensures { wrote result out.new ≡ placed_of (runs_of records.now n column) out.old }
 {
     let numbers = walk(records, n, column);
     let needed = numbers * 4;
     if out.len() < needed {
-        return refuse(12, needed);
+        return Err(Refusal::TooSmall(needed));
     }
     fill(records, n, column, out);
-    Put::Done(needed)
+    Ok(needed)
 }

@@ -1,4 +1,4 @@
-#![tactic(auto)]
+#![tactic(auto, unfolding(numbers::specs::Field::when, numbers::specs::Field::field))]
 // The sync samples (ISO/IEC 14496-12, 8.6.2): their numbers, counted from 1. Where no sample is sync there is no entry, and
 // the box is there all the same (A56).
 ghost use Rattle.std.specs.Prelude.{◌≡◌, ◌^◌, ◌<◌, length};
@@ -6,8 +6,8 @@ ghost use Rattle.put.specs.Put.{wrote};
 ghost use Rattle.columns.specs.Entries.{Filled, Emitted};
 ghost use Rattle.builder.specs.Built.{sync_word, syncs_in, stss_of};
 
-use columns::{SYNC, refuse};
-use put::Put;
+use columns::SYNC;
+use numbers::Refusal;
 
 // The number of a sample as the k-th, if it is sync; and the place after it.
 fn put_sync(out: &mut [u8], k: usize, sync: u64, number: u32) -> usize
@@ -47,20 +47,20 @@ fn walk(records: &[u64], n: usize) -> usize
 }
 
 // The entries of stss for the first n records, and their length.
-pub fn entries(records: &[u64], n: usize, out: &mut [u8]) -> Put
+pub fn entries(records: &[u64], n: usize, out: &mut [u8]) -> Result<usize, Refusal>
     ensures { wrote result out.new ≡ stss_of records.now n out.old }
 {
     if !columns::has(records, n) {
-        return refuse(11, n);
+        return Err(Refusal::NoSample(n));
     }
     if columns::MANY < n {
-        return refuse(13, 0);
+        return Err(Refusal::Unwritable);
     }
     let numbers = walk(records, n);
     let needed = numbers * 4;
     if out.len() < needed {
-        return refuse(12, needed);
+        return Err(Refusal::TooSmall(needed));
     }
     fill(records, n, out);
-    Put::Done(needed)
+    Ok(needed)
 }

@@ -1,4 +1,4 @@
-#![tactic(auto)]
+#![tactic(auto, unfolding(numbers::specs::Field::when, numbers::specs::Field::field))]
 // The sample sizes (ISO/IEC 14496-12, 8.7.3.2): one that all samples have in common, or a list.
 ghost use Rattle.std.specs.Prelude.{◌≡◌, ◌^◌, ◌<◌};
 ghost use Rattle.put.specs.Put.{wrote};
@@ -6,8 +6,8 @@ ghost use Rattle.columns.specs.Columns.{lows_of};
 ghost use Rattle.columns.specs.Entries.{Filled};
 ghost use Rattle.builder.specs.Built.{all_same, common_in, stsz_of};
 
-use columns::{Rule, SIZE, refuse};
-use put::Put;
+use columns::{Rule, SIZE};
+use numbers::Refusal;
 
 // Whether each of the first n sizes is this one.
 fn all_same(records: &[u64], n: usize, size: u32) -> bool
@@ -55,26 +55,26 @@ fn fill(records: &[u64], n: usize, out: &mut [u8])
 }
 
 // The entries of stsz for the first n records, and their length: none where the size is common.
-pub fn entries(records: &[u64], n: usize, out: &mut [u8]) -> Put
+pub fn entries(records: &[u64], n: usize, out: &mut [u8]) -> Result<usize, Refusal>
     ensures { wrote result out.new ≡ stsz_of records.now n out.old }
 {
     if !columns::has(records, n) {
-        return refuse(11, n);
+        return Err(Refusal::NoSample(n));
     }
     if columns::MANY < n {
-        return refuse(13, 0);
+        return Err(Refusal::Unwritable);
     }
     if !columns::all_right(records, n, SIZE, Rule::Narrow) {
-        return refuse(13, 0);
+        return Err(Refusal::Unwritable);
     }
     let size = common(records, n);
     if size != 0 {
-        return Put::Done(0);
+        return Ok(0);
     }
     let needed = n * 4;
     if out.len() < needed {
-        return refuse(12, needed);
+        return Err(Refusal::TooSmall(needed));
     }
     fill(records, n, out);
-    Put::Done(needed)
+    Ok(needed)
 }

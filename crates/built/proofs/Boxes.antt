@@ -1,5 +1,6 @@
 -- A box that is written around entries, and stands in a file, reads back there: its record, and where its entries stand.
 -- Assumes nothing.
+use Rattle.std.specs.Prelude.{Result, Ok, Err, Some, None}
 use Prim.Native.Nat.{ℕ, ◌+◌, ◌-◌, ◌*◌, ◌^◌, ◌≤◌, ◌<◌}
 use mathlib.Core.Path.{◌≡◌, refl, sym, ap, ap₂, ◌∙◌}
 use mathlib.Core.List.{List, ◌++◌, append_assoc}
@@ -11,21 +12,16 @@ use Rattle.numbers.specs.Field.{when}
 use Rattle.numbers.specs.declared.Refusal.{Refusal}
 use Rattle.parts.specs.Parts.{part_of}
 use Rattle.put.specs.Put.{wrote}
-use Rattle.put.specs.declared.Put.TheVariants.{Done}
 use Rattle.layout.specs.Read.{read_of, zeros}
 use Rattle.layout.specs.Canonical.{slots, firsts}
-use Rattle.layout.specs.Table.{cut_of, tabled, write_table}
+use Rattle.layout.specs.Table.{cut_of, uncut, tabled, write_table}
 use Rattle.layout.specs.declared.Field.{Field}
-use Rattle.layout.specs.declared.table.Cut.TheVariants.{Whole}
-use Rattle.rows.specs.Judge.{judged_of, write_judged}
-use Rattle.rows.specs.declared.Judged.{Judged}
-use Rattle.rows.specs.declared.Judged.TheVariants.{Fine}
+use Rattle.rows.specs.Judge.{settle, judged_of, write_judged}
 use Rattle.rows.proofs.Moved.{moved}
 use Rattle.rounds.proofs.Boxes.{reads-back, fields_in}
-use Rattle.rounds.proofs.TableBoxes.{holds, as_many, table_is}
-use Rattle.rounds.proofs.JudgedBoxes.{sound, judged-is}
+use Rattle.rounds.proofs.TableBoxes.{holds, as_many}
+use Rattle.rounds.proofs.JudgedBoxes.{sound}
 use Rattle.stbl.specs.Stbl.{last, entries_at, fault_in, missing, table_in, optional_in, entries_in}
-use Rattle.tables.specs.declared.Optional.TheVariants as optional
 use Rattle.built.specs.Written.{Stands}
 
 -- the bytes of a box are read as a record, with the entries from a place in it up to its end
@@ -35,43 +31,43 @@ pub record Reads {R : Type 0} (got : R) (is : ℕ → R) (box entries : List ℕ
   pub ends : drop place box ≡ entries
   pub within : place + length entries ≡ length box
 
-module _ {M : Type 0} {R : Type 0} (is : M → ℕ → R) (refused : Refusal → R) (from : List ℕ → M) (to : M → List ℕ) (n : M → ℕ) (w : ℕ) (kind : ℕ) (fs : List Field) where
+module _ {M : Type 0} (from : List ℕ → M) (to : M → List ℕ) (n : M → ℕ) (w : ℕ) (kind : ℕ) (fs : List Field) where
   pub table-reads : kind < 4294967296 → ((m : M) → from (sets (zeros 24) 0 (firsts (slots fs) 0 (to m))) ≡ m) →
-      (m : M) (rows buf : List ℕ) (k : ℕ) (out : List ℕ) → write_table kind fs (to m) (n m * w) rows buf ≡ wrote (Done k) out →
-      (length rows ≡ n m * w) × Reads (tabled is refused from n w (take k out) (read_of kind fs (take k out))) (is m) (take k out) rows
+      (m : M) (rows buf : List ℕ) (k : ℕ) (out : List ℕ) → write_table kind fs (to m) (n m * w) rows buf ≡ wrote (Ok k) out →
+      (length rows ≡ n m * w) × Reads (tabled from n w (take k out) (read_of kind fs (take k out))) (λ b. Ok (m, b)) (take k out) rows
   table-reads hk ft m rows buf k out t =
       let a = as_many kind fs (to m) (n m * w) rows buf k out t in
       let p = reads-back kind fs (to m) rows buf k out hk a.1 in
       let o = take k out in
       let g = fields_in (length o) p.0 (firsts (slots fs) 0 (to m)) in
-      let c : cut_of (n (from g.values)) w (take (length o) o) p.0 ≡ Whole =
+      let c : cut_of (n (from g.values)) w (take (length o) o) p.0 ≡ None =
       ap₂ (λ (m : M) (l : List ℕ). cut_of (n m) w l p.0) (ft m) (take-length o) ∙ holds (n m) w (take k out) p.0 (omega (arith, a.0, p.3)) in (
         a.0,
         record {
           place = p.0;
-          reads = sym (table_is is refused from n w (take k out) g (read_of kind fs (take k out)) (sym p.1) refl Whole (sym c) refl) ∙ ap (λ m. is m p.0) (ft m);
+          reads = ap (tabled from n w o) p.1 ∙ ap (uncut (from g.values, p.0)) c ∙ ap (λ (m : M). Ok (m, p.0)) (ft m);
           ends = p.2;
           within = p.3;
         },
       )
 
-module _ {M : Type 0} {R : Type 0} (is : M → ℕ → R) (refused : Refusal → R) (from : List ℕ → M) (to : M → List ℕ) (size : M → ℕ) (judge : M → List ℕ → ℕ → Judged)
+module _ {M : Type 0} (from : List ℕ → M) (to : M → List ℕ) (size : M → ℕ) (judge : M → List ℕ → ℕ → Result (Unit {0}) Refusal)
     (move : (m : M) (s : ℕ) (b : List ℕ) → s ≤ length b → judge m b s ≡ moved s (judge m (drop s b) 0)) (kind : ℕ) (fs : List Field) where
   pub judged-reads : kind < 4294967296 → ((m : M) → from (sets (zeros 24) 0 (firsts (slots fs) 0 (to m))) ≡ m) →
-      (m : M) (rows buf : List ℕ) (k : ℕ) (out : List ℕ) → write_judged kind fs (to m) (size m) (judge m rows 0) rows buf ≡ wrote (Done k) out →
-      (length rows ≡ size m) × Reads (judged_of is refused from judge (take k out) (read_of kind fs (take k out))) (is m) (take k out) rows
+      (m : M) (rows buf : List ℕ) (k : ℕ) (out : List ℕ) → write_judged kind fs (to m) (size m) (judge m rows 0) rows buf ≡ wrote (Ok k) out →
+      (length rows ≡ size m) × Reads (judged_of from judge (take k out) (read_of kind fs (take k out))) (λ b. Ok (m, b)) (take k out) rows
   judged-reads hk ft m rows buf k out t =
       let a = sound kind fs (to m) (size m) (judge m rows 0) rows buf k out t in
       let p = reads-back kind fs (to m) rows buf k out hk a.2 in
       let o = take k out in
       let g = fields_in (length o) p.0 (firsts (slots fs) 0 (to m)) in
-      let j : judge m (take k out) p.0 ≡ Fine =
+      let j : judge m (take k out) p.0 ≡ (Ok tt) =
       move m p.0 (take k out) (omega (arith, p.3)) ∙ ap (λ l. moved p.0 (judge m l 0)) p.2 ∙ ap (moved p.0) a.1 in
-      let c : judge (from g.values) (take (length o) o) p.0 ≡ Fine = ap₂ (λ (m : M) (l : List ℕ). judge m l p.0) (ft m) (take-length o) ∙ j in (
+      let c : judge (from g.values) (take (length o) o) p.0 ≡ (Ok tt) = ap₂ (λ (m : M) (l : List ℕ). judge m l p.0) (ft m) (take-length o) ∙ j in (
         a.0,
         record {
           place = p.0;
-          reads = sym (judged-is is refused from judge (take k out) g (read_of kind fs (take k out)) (sym p.1) refl Fine (sym c) refl) ∙ ap (λ m. is m p.0) (ft m);
+          reads = ap (judged_of from judge o) p.1 ∙ ap (settle (Ok (from g.values, p.0)) Err) c ∙ ap (λ (m : M). Ok (m, p.0)) (ft m);
           ends = p.2;
           within = p.3;
         },
@@ -103,11 +99,11 @@ module _ (f box : List ℕ) (start : ℕ) (s : Stands f start box) where
 
 -- entries at a place that there is
 module _ (start place count common : ℕ) (h : start + place ≤ last) where
-  pub no-fault : fault_in (entries_at start place count common) ≡ Fine
+  pub no-fault : fault_in (entries_at start place count common) ≡ (Ok tt)
   unfolding when
   no-fault = simp (le-leb (start + place) last h)
 
-  pub not-missing : (kind : ℕ) → missing kind (entries_at start place count common) ≡ Fine
+  pub not-missing : (kind : ℕ) → missing kind (entries_at start place count common) ≡ (Ok tt)
   unfolding when
   not-missing kind = simp (le-leb (start + place) last h)
 
@@ -115,7 +111,7 @@ module _ (start place count common : ℕ) (h : start + place ≤ last) where
   unfolding when
   table-is-there = simp (le-leb (start + place) last h)
 
-  pub optional-is-there : optional_in (entries_at start place count common) ≡ optional.At (record { at = start + place; count = count })
+  pub optional-is-there : optional_in (entries_at start place count common) ≡ Some (record { at = start + place; count = count })
   unfolding when
   optional-is-there = simp (le-leb (start + place) last h)
 

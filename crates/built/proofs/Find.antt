@@ -1,4 +1,5 @@
 -- The boxes of a sample table that is written are found in it where `boxes_at` says. Assumes nothing.
+use Rattle.std.specs.Prelude.{Result, Option, Ok, Err, Some, None}
 use Prim.Native.Nat.{ℕ, zero, suc, ◌+◌, ◌-◌, ◌*◌, ◌^◌, ◌≤◌, ◌<◌}
 use mathlib.Core.Path.{◌≡◌, refl, sym, ap, ap₂, ◌∙◌}
 use mathlib.Core.List.{List, [], ◌++◌, append_assoc, append-nil}
@@ -11,21 +12,16 @@ use Rattle.numbers.specs.Field.{when}
 use Rattle.numbers.proofs.Laws.{length-bytes}
 use Rattle.numbers.proofs.Chain.{whole, by-true, by-false, is_ne, not-lt, is_lt}
 use Rattle.put.specs.Put.{wrote}
-use Rattle.put.specs.declared.Put.TheVariants.{Done}
 use Rattle.boxes.specs.Header.{header, header_of}
-use Rattle.boxes.specs.declared.header.Found.TheVariants as header-found
 use Rattle.layout.specs.Rule.{rule_of}
 use Rattle.layout.specs.Read.{read_of, zeros}
 use Rattle.layout.specs.Write.{made, lay, encode, place, placed, write_of, full}
 use Rattle.layout.specs.Canonical.{slots, firsts}
 use Rattle.places.specs.Kinds as kinds
 use Rattle.rows.specs.Judge.{settle}
-use Rattle.rows.specs.declared.Judged.TheVariants.{Fine}
 use Rattle.rounds.proofs.Boxes.{reads-back, fields_in}
 use Rattle.children.specs.Children as children
 use Rattle.children.specs.Children.{Row, end, box, row_of, first_in, whole_in, headed, children_of, inside}
-use Rattle.children.specs.declared.Child.{Child}
-use Rattle.children.specs.declared.Child.TheVariants as child
 use Rattle.children.proofs.Turns.{enough}
 use Rattle.samples.specs.declared.Sample.{Sample}
 use Rattle.samples.specs.Records.{records_of}
@@ -37,11 +33,7 @@ use Rattle.builder.proofs.Back.{Numbered}
 use Rattle.builder.proofs.Bytes.{Small}
 use Rattle.stbl.specs.Stbl.{track_of}
 use Rattle.tableboxes.specs.TableBoxes.{span_by, span_in, span_of, boxes_in, boxes_of}
-use Rattle.stbl.specs.declared.Found.TheVariants as found
 use Rattle.stbl.specs.declared.Boxes.{Boxes}
-use Rattle.stbl.specs.declared.Span.{Span}
-use Rattle.stbl.specs.declared.Span.TheVariants as span
-use Rattle.tableboxes.specs.declared.Places.TheVariants as places
 use Rattle.sampletable.specs.declared.Table.{Table}
 use Rattle.sampletable.specs.declared.Table.TheVariants.{Stts, Ctts, Stsc, Stsz, Offsets, Stss}
 use Rattle.sampletable.specs.SampleTable.{wide_in, list_of, kind_of, is_there, head_of, table_of, tables_of, box_of, stbl_of, stbl_in}
@@ -53,24 +45,25 @@ use Rattle.built.proofs.Given.{length-words}
 use Rattle.built.proofs.Heads.{place-gives}
 use Rattle.built.proofs.Judged.{word-is}
 use Rattle.built.proofs.Written.{split, stands-right, written-given, written-reads-back}
+use Rattle.numbers.specs.declared.Refusal.{Refusal}
 
 -- A HEADER
 
 pub header_at : (s pre post : List ℕ) (kind size at : ℕ) → s ≡ pre ++ (bytes 4 size ++ (bytes 4 kind ++ post)) → at ≡ length pre → Small kind → 8 ≤ size → Small size → at + size ≤ length s
-    → header_of s at false ≡ header-found.Is (header kind size 8)
+    → header_of s at false ≡ Ok (header kind size 8)
 header_at s pre post kind size at e a hk h8 hs room =
     let w₁ = word-is s pre (bytes 4 kind ++ post) size at e a hs in
     let w₂ = word-is s (pre ++ bytes 4 size) post kind (at + 4) (e ∙ sym (append_assoc pre (bytes 4 size) (bytes 4 kind ++ post))) (omega (arith, a, length-append pre (bytes 4 size), length-bytes 4 size)) hk in
     sym
-    (whole 4 s at header-found.Refused _ (header-found.Is (header kind size 8)) size w₁.0 w₁.1
+    (whole 4 s at Err _ (Ok (header kind size 8)) size w₁.0 w₁.1
     (is_ne _ _ _ size 1 (λ q. omega arith)
     (is_ne _ _ _ size 0 (λ q. omega arith)
     (not-lt _ _ _ (length s - at) size (omega arith)
-    (not-lt _ _ _ size 8 h8 (whole 4 s (at + 4) header-found.Refused (λ k. header-found.Is (header k size 8)) (header-found.Is (header kind size 8)) kind w₂.0 w₂.1 refl))))))
+    (not-lt _ _ _ size 8 h8 (whole 4 s (at + 4) Err (λ k. Ok (header k size 8)) (Ok (header kind size 8)) kind w₂.0 w₂.1 refl))))))
 
 -- ROWS OF BOXES
 
-next_row : (s : List ℕ) (at fuel kind size : ℕ) → header_of s at false ≡ header-found.Is (header kind size 8) → at < length s → 0 < size → length s - at ≤ fuel → row_of fuel s at ≡ box kind at (row_of fuel s (at + size))
+next_row : (s : List ℕ) (at fuel kind size : ℕ) → header_of s at false ≡ Ok (header kind size 8) → at < length s → 0 < size → length s - at ≤ fuel → row_of fuel s at ≡ box kind at (row_of fuel s (at + size))
 unfolding row_of
 next_row s at zero kind size e h z k = absurd (omega arith)
 next_row s at (suc f) kind size e h z k =
@@ -107,7 +100,7 @@ module _ (scale : ℕ) (rs : List ℕ) (n : ℕ) (s : List ℕ) (t : Table) (at 
   room : at + length (table_of t scale rs n) * 4 ≤ length s
   room = omega (arith, x.place, ap length x.there, length-append x.before (words_of (table_of t scale rs n) ++ x.behind), length-append (words_of (table_of t scale rs n)) x.behind, length-words (table_of t scale rs n))
 
-  table-header : is_there t rs n ≡ true → header_of s at false ≡ header-found.Is (header kind (length (table_of t scale rs n) * 4) 8)
+  table-header : is_there t rs n ≡ true → header_of s at false ≡ Ok (header kind (length (table_of t scale rs n) * 4) 8)
   table-header e =
       let b = is-box e in
       let size : 12 + length ns * 4 ≡ length (table_of t scale rs n) * 4 = omega (arith, ap length b) in
@@ -140,14 +133,14 @@ row_all c w y a₁ a₂ a₃ a₄ a₅ a₆ =
     (box kinds.stts a₁ (row_if c kinds.ctts a₂ (box kinds.stsc a₃ (box kinds.stsz a₄ (box (when w kinds.co64 kinds.stco) a₅ (row_if y kinds.stss a₆ end))))))
 
 record Finds (c w y : Bool) (a₁ a₂ a₃ a₄ a₅ a₆ : ℕ) : Type 0 where
-  stts : first_in kinds.stts (row_all c w y a₁ a₂ a₃ a₄ a₅ a₆) ≡ when true (child.At a₁) child.Absent
-  ctts : first_in kinds.ctts (row_all c w y a₁ a₂ a₃ a₄ a₅ a₆) ≡ when c (child.At a₂) child.Absent
-  stsc : first_in kinds.stsc (row_all c w y a₁ a₂ a₃ a₄ a₅ a₆) ≡ when true (child.At a₃) child.Absent
-  stsz : first_in kinds.stsz (row_all c w y a₁ a₂ a₃ a₄ a₅ a₆) ≡ when true (child.At a₄) child.Absent
-  stco : first_in kinds.stco (row_all c w y a₁ a₂ a₃ a₄ a₅ a₆) ≡ when (not w) (child.At a₅) child.Absent
-  co64 : first_in kinds.co64 (row_all c w y a₁ a₂ a₃ a₄ a₅ a₆) ≡ when w (child.At a₅) child.Absent
-  stss : first_in kinds.stss (row_all c w y a₁ a₂ a₃ a₄ a₅ a₆) ≡ when y (child.At a₆) child.Absent
-  fine : whole_in (row_all c w y a₁ a₂ a₃ a₄ a₅ a₆) ≡ Fine
+  stts : first_in kinds.stts (row_all c w y a₁ a₂ a₃ a₄ a₅ a₆) ≡ when true (Ok (Some a₁)) (Ok None)
+  ctts : first_in kinds.ctts (row_all c w y a₁ a₂ a₃ a₄ a₅ a₆) ≡ when c (Ok (Some a₂)) (Ok None)
+  stsc : first_in kinds.stsc (row_all c w y a₁ a₂ a₃ a₄ a₅ a₆) ≡ when true (Ok (Some a₃)) (Ok None)
+  stsz : first_in kinds.stsz (row_all c w y a₁ a₂ a₃ a₄ a₅ a₆) ≡ when true (Ok (Some a₄)) (Ok None)
+  stco : first_in kinds.stco (row_all c w y a₁ a₂ a₃ a₄ a₅ a₆) ≡ when (not w) (Ok (Some a₅)) (Ok None)
+  co64 : first_in kinds.co64 (row_all c w y a₁ a₂ a₃ a₄ a₅ a₆) ≡ when w (Ok (Some a₅)) (Ok None)
+  stss : first_in kinds.stss (row_all c w y a₁ a₂ a₃ a₄ a₅ a₆) ≡ when y (Ok (Some a₆)) (Ok None)
+  fine : whole_in (row_all c w y a₁ a₂ a₃ a₄ a₅ a₆) ≡ (Ok tt)
 
 all_found : (c w y : Bool) (a₁ a₂ a₃ a₄ a₅ a₆ : ℕ) → Finds c w y a₁ a₂ a₃ a₄ a₅ a₆
 unfolding first_in whole_in when
@@ -161,12 +154,12 @@ all_found false false true a₁ a₂ a₃ a₄ a₅ a₆ = record { stts = refl;
 all_found false false false a₁ a₂ a₃ a₄ a₅ a₆ = record { stts = refl; ctts = refl; stsc = refl; stsz = refl; stco = refl; co64 = refl; stss = refl; fine = refl }
 
 -- the span of the first of a type
-span-is : (s : List ℕ) (kind size at h : ℕ) (b : Bool) (r : Row) → children_of kinds.stbl s ≡ r → first_in kind r ≡ when b (child.At at) child.Absent → (b ≡ true → header_of s at false ≡ header-found.Is (header h size 8))
-    → span_of kind s ≡ when b (span.At at size) span.Absent
+span-is : (s : List ℕ) (kind size at h : ℕ) (b : Bool) (r : Row) → children_of kinds.stbl s ≡ r → first_in kind r ≡ when b (Ok (Some at)) (Ok None) → (b ≡ true → header_of s at false ≡ Ok (header h size 8))
+    → span_of kind s ≡ when b (Some (at, size)) None
 unfolding when
-span-is s kind size at h b r e q k = ap (λ (x : Row). span_in s (children.placed (first_in kind x))) e ∙ ap (λ (x : Child). span_in s (children.placed x)) q ∙ cases b k
+span-is s kind size at h b r e q k = ap (λ (x : Row). span_in s (children.placed (first_in kind x))) e ∙ ap (λ (x : Result (Option ℕ) Refusal). span_in s (children.placed x)) q ∙ cases b k
   where
-    cases : (b : Bool) → (b ≡ true → header_of s at false ≡ header-found.Is (header h size 8)) → span_in s (children.placed (when b (child.At at) child.Absent)) ≡ when b (span.At at size) span.Absent
+    cases : (b : Bool) → (b ≡ true → header_of s at false ≡ Ok (header h size 8)) → span_in s (children.placed (when b (Ok (Some at)) (Ok None))) ≡ when b (Some (at, size)) None
     cases true k = ap (span_by at) (k refl)
     cases false k = refl
 
@@ -185,8 +178,8 @@ children-are tail h =
     let ls : length (full kinds.stbl [] tail) ≡ 8 + length tail =
     omega (arith, length-append (bytes 4 size ++ bytes 4 kinds.stbl ++ []) tail, length-append (bytes 4 size ++ bytes 4 kinds.stbl) [], length-append (bytes 4 size) (bytes 4 kinds.stbl), length-bytes 4 size, length-bytes 4 kinds.stbl) in
     let e : p.0 ≡ 8 = omega (arith, p.3, ap length g.bytes) in
-    let r : read_of kinds.stbl children.fields (full kinds.stbl [] tail) ≡ fields_in (length (full kinds.stbl [] tail)) 8 (firsts (slots children.fields) 0 (zeros 24)) =
-    sym (ap (read_of kinds.stbl children.fields) g.bytes) ∙ p.1 ∙ ap₂ (λ (b : List ℕ) (k : ℕ). fields_in (length b) k (firsts (slots children.fields) 0 (zeros 24))) g.bytes e in
+    let r : read_of kinds.stbl children.fields (full kinds.stbl [] tail) ≡ Ok (fields_in (length (full kinds.stbl [] tail)) 8 (firsts (slots children.fields) 0 (zeros 24))) =
+    sym (ap (read_of kinds.stbl children.fields) g.bytes) ∙ p.1 ∙ ap₂ (λ (b : List ℕ) (k : ℕ). Ok (fields_in (length b) k (firsts (slots children.fields) 0 (zeros 24)))) g.bytes e in
     ap (inside s) r ∙ ap (λ (b : List ℕ). row_of (length b - 8) b 8) (take-length s)
 
 rows_are : (scale : ℕ) (rs : List ℕ) (n : ℕ) (a₁ a₂ a₃ a₄ a₅ a₆ : ℕ) →
@@ -208,13 +201,13 @@ always-there : (rs : List ℕ) (n : ℕ) → (is_there Stts rs n ≡ true) × (i
 unfolding is_there
 always-there rs n = (refl, refl, refl, refl)
 
-all-spans : (x₁ x₂ x₃ x₄ x₅ x₆ x₇ y₁ y₂ y₃ y₄ y₅ y₆ y₇ : Span) → x₁ ≡ y₁ → x₂ ≡ y₂ → x₃ ≡ y₃ → x₄ ≡ y₄ → x₅ ≡ y₅ → x₆ ≡ y₆ → x₇ ≡ y₇ →
+all-spans : (x₁ x₂ x₃ x₄ x₅ x₆ x₇ y₁ y₂ y₃ y₄ y₅ y₆ y₇ : Option (ℕ × ℕ)) → x₁ ≡ y₁ → x₂ ≡ y₂ → x₃ ≡ y₃ → x₄ ≡ y₄ → x₅ ≡ y₅ → x₆ ≡ y₆ → x₇ ≡ y₇ →
     ◌≡◌ {A = Boxes} (record { stts = x₁; ctts = x₂; stsc = x₃; stsz = x₄; stco = x₅; co64 = x₆; stss = x₇ }) (record { stts = y₁; ctts = y₂; stsc = y₃; stsz = y₄; stco = y₅; co64 = y₆; stss = y₇ })
 all-spans x₁ x₂ x₃ x₄ x₅ x₆ x₇ y₁ y₂ y₃ y₄ y₅ y₆ y₇ e₁ e₂ e₃ e₄ e₅ e₆ e₇ = cc
 
 module _ (scale : ℕ) (rs : List ℕ) (n : ℕ) (stsd rest : List ℕ) (d : stsd ≡ bytes 4 (length stsd) ++ (bytes 4 kinds.stsd ++ rest)) (small : length (stbl_of scale rs n stsd) < 2 ^ 32) where
   -- the sample descriptions are a box, and `boxes_at` says where the others are
-  pub written-found : boxes_of (stbl_of scale rs n stsd) ≡ places.Are (boxes_at 0 scale rs n stsd)
+  pub written-found : boxes_of (stbl_of scale rs n stsd) ≡ Ok (boxes_at 0 scale rs n stsd)
   written-found =
       let s = stbl_of scale rs n stsd in
       let T : Table → List ℕ = λ (t : Table). table_of t scale rs n in
@@ -252,7 +245,7 @@ module _ (scale : ℕ) (rs : List ℕ) (n : ℕ) (stsd rest : List ℕ) (d : sts
       let f₆ : length (table_of Stss scale rs n) * 4 < 2 ^ 32 = omega (arith, small, ls, lt) in
       let fuel = length (stbl_of scale rs n stsd) - 8 in
       let ld : length stsd ≡ 8 + length rest = ap length d ∙ (let z : length (bytes 4 (length stsd) ++ (bytes 4 kinds.stsd ++ rest)) ≡ 8 + length rest = omega (arith, length-append (bytes 4 (length stsd)) (bytes 4 kinds.stsd ++ rest), length-append (bytes 4 kinds.stsd) rest, length-bytes 4 (length stsd), length-bytes 4 kinds.stsd) in z) in
-      let hd : header_of s 8 false ≡ header-found.Is (header kinds.stsd (length stsd) 8) =
+      let hd : header_of s 8 false ≡ Ok (header kinds.stsd (length stsd) 8) =
       header_at s sd.before (rest ++ ws ++ sd.behind) kinds.stsd (length stsd) 8
       (box-first s sd.before stsd (bytes 4 (length stsd)) (bytes 4 kinds.stsd) rest ws sd.behind sd.there d)
       sd.place (omega arith) (omega (arith, ld)) (omega (arith, small, ls)) (omega (arith, ls)) in
@@ -284,14 +277,14 @@ module _ (scale : ℕ) (rs : List ℕ) (n : ℕ) (stsd rest : List ℕ) (d : sts
       let b₆ = span-is s kinds.co64 (length (T Offsets) * 4) a₅ _ (wide_in scale rs n) _ row q.co64 (λ z. table-header scale rs n s Offsets a₅ y₅.0 f₅ th.3) in
       let b₇ = span-is s kinds.stss (length (T Stss) * 4) a₆ _ (is_there Stss rs n) _ row q.stss (λ z. table-header scale rs n s Stss a₆ y₅.1 f₆ z) in
       let boxes : boxes_in (stbl_of scale rs n stsd) ≡ boxes_at 0 scale rs n stsd = all-spans _ _ _ _ _ _ _ _ _ _ _ _ _ _ b₁ b₂ b₃ b₄ b₅ b₆ b₇ in
-      ap (settle (places.Are (boxes_in s)) places.Refused) (ap whole_in row ∙ q.fine) ∙ ap places.Are boxes
+      ap (settle (Ok (boxes_in s)) Err) (ap whole_in row ∙ q.fine) ∙ ap Ok boxes
 
 -- The theorem of the sample table's writer, by what it wrote alone: for every list of samples, numbered from 1 and each at
 -- the sum of the durations before it, that the writer does not refuse, and sample descriptions that are a box: the boxes
 -- are found in what it wrote, a track is read from them, and that track lists exactly these samples.
 module _ (l : List Sample) (w : All Of64 l) (m : Numbered 0 0 l) (scale : ℕ) (stsd rest o out : List ℕ) (k : ℕ) where
-  pub table-reads-back : stsd ≡ bytes 4 (length stsd) ++ (bytes 4 kinds.stsd ++ rest) → stbl_in scale (records_of l) (length l) stsd o ≡ wrote (Done k) out
-      → (b : Boxes) × (t : Track) × (boxes_of (take k out) ≡ places.Are b) × (track_of (take k out) b ≡ found.Is t) × (samples_of (take k out) t ≡ l)
+  pub table-reads-back : stsd ≡ bytes 4 (length stsd) ++ (bytes 4 kinds.stsd ++ rest) → stbl_in scale (records_of l) (length l) stsd o ≡ wrote (Ok k) out
+      → (b : Boxes) × (t : Track) × (boxes_of (take k out) ≡ Ok b) × (track_of (take k out) b ≡ Ok t) × (samples_of (take k out) t ≡ l)
   table-reads-back d e =
       let x = written-given scale (records_of l) (length l) stsd o out k e in
       let f = take k out in

@@ -1,4 +1,5 @@
 -- The boxes' own writers give the boxes of the sample table. Assumes nothing.
+use Rattle.std.specs.Prelude.{Result, Ok}
 use Prim.Native.Nat.{ℕ, suc, ◌+◌, ◌-◌, ◌*◌, ◌^◌, ◌<◌}
 use mathlib.Core.Path.{◌≡◌, refl, sym, ap, ◌∙◌}
 use mathlib.Core.List.{List, [], ◌∷◌, ◌++◌, append_assoc}
@@ -16,12 +17,11 @@ use Rattle.layout.specs.Write.{made, lay, encode, full, place, placed, padded, s
 use Rattle.layout.specs.Table.{write_table}
 use Rattle.layout.specs.declared.Field.TheVariants.{Number, Version, Flags}
 use Rattle.rows.specs.Judge.{settle, write_judged}
-use Rattle.rows.specs.declared.Judged.{Judged}
-use Rattle.rows.specs.declared.Judged.TheVariants.{Fine}
 use Rattle.columns.specs.Entries.{words_of, placed_of}
 use Rattle.sampletable.specs.SampleTable.{box_of}
 use Rattle.built.specs.Written.{Gives}
 use Rattle.built.proofs.Given.{length-words, first-bytes}
+use Rattle.numbers.specs.declared.Refusal.{Refusal}
 
 -- THE BYTES BEFORE THE ENTRIES
 
@@ -97,7 +97,7 @@ module _ (kind c : ℕ) (es : List ℕ) (h : c < 2 ^ 32) (k : length (box_of kin
       place-gives box _ (omega (arith, length-words (box_of kind (c ∷ es))))
       (sym (is_eq _ _ _ (length (words_of es)) size (length-words es ∙ e) refl) ∙ ap (placed kind (words_of es) box) (shift-number c h) ∙ ap (place box) (one-box kind c es))
 
-  pub judged-gives : (size : ℕ) (v : Judged) → length es * 4 ≡ size → v ≡ Fine → Gives (write_judged kind (padded (Version 0 0 ∷ Flags ∷ Number 4 ∷ [])) (slotted (0 ∷ 0 ∷ c ∷ [])) size v (words_of es) box) box
+  pub judged-gives : (size : ℕ) (v : Result (Unit {0}) Refusal) → length es * 4 ≡ size → v ≡ (Ok tt) → Gives (write_judged kind (padded (Version 0 0 ∷ Flags ∷ Number 4 ∷ [])) (slotted (0 ∷ 0 ∷ c ∷ [])) size v (words_of es) box) box
   judged-gives size v e f =
       place-gives box _ (omega (arith, length-words (box_of kind (c ∷ es))))
       (sym (is_eq _ _ _ (length (words_of es)) size (length-words es ∙ e) refl) ∙ ap (settle _ _) f ∙ one_written)

@@ -1,5 +1,6 @@
 -- The entries of stsc and stss, as they are built, are what the boxes' writers and readers allow (A21): first chunks begin
 -- at 1 and rise, no chunk has 0 samples, and sync samples rise. Assumes nothing.
+use Rattle.std.specs.Prelude.{Result, Ok, Err}
 use Prim.Native.Nat.{ℕ, suc, ◌+◌, ◌-◌, ◌≤◌, ◌<◌}
 use mathlib.Core.Path.{◌≡◌, refl, sym, ap, ap₂, ◌∙◌}
 use mathlib.Core.List.{List, [], ◌∷◌, ◌++◌, append_assoc, append-nil}
@@ -10,15 +11,13 @@ use lib.ListN.{length, length-append}
 use lib.Dec.{eqb, ltb}
 use borrow.Author.Tests.{eq-eqb, lt-ltb, le-leb, eqb-true}
 use Rattle.numbers.specs.Number.{be, bytes}
-use Rattle.numbers.specs.Field.{when, refusal}
+use Rattle.numbers.specs.Field.{when}
+use Rattle.numbers.specs.declared.Refusal.TheVariants as refusal
 use Rattle.numbers.proofs.Laws.{length-bytes, be-bytes}
 use Rattle.numbers.proofs.Chain.{whole, by-true}
 use Rattle.rows.specs.Rows.{width_of, allowed_of, last_of, cells_of, entry_of, step, entries_of}
 use Rattle.rows.specs.declared.Cell.{Cell}
 use Rattle.rows.specs.declared.Cell.TheVariants.{FromOne, Least, Rising, Any, Nothing}
-use Rattle.rows.specs.declared.Judged.TheVariants.{Fine}
-use Rattle.rows.specs.declared.Passed.{Passed}
-use Rattle.rows.specs.declared.Passed.TheVariants as entry
 use Rattle.tables.specs.declared.Row.{Row}
 use Rattle.merging.proofs.Rows.{All, nothing, each, Right}
 use Rattle.columns.specs.Entries.{words_of}
@@ -28,6 +27,7 @@ use Rattle.chunking.specs.Entries.{group_words}
 use Rattle.chunking.proofs.Bytes.{Fit}
 use Rattle.stsc.specs.Stsc as stsc
 use Rattle.stss.specs.Stss as stss
+use Rattle.numbers.specs.declared.Refusal.{Refusal}
 
 pub word-is : (b pre post : List ℕ) (x at : ℕ) → b ≡ pre ++ (bytes 4 x ++ post) → at ≡ length pre → Small x → (at + 4 ≤ length b) × (x ≡ be 4 b at)
 word-is b pre post x at e a h = (
@@ -36,27 +36,27 @@ word-is b pre post x at e a h = (
 )
 
 -- a field that is whole and allowed, and what comes behind it
-cell-fine : (c : Cell) (cs : List Cell) (b : List ℕ) (at last x : ℕ) (z : Passed) → at + width_of c ≤ length b → x ≡ be (width_of c) b at → allowed_of c last x ≡ true
-    → z ≡ cells_of entry.Wrong cs b (at + width_of c) (last_of c last x) entry.Next → z ≡ cells_of entry.Wrong (c ∷ cs) b at last entry.Next
+cell-fine : (c : Cell) (cs : List Cell) (b : List ℕ) (at last x : ℕ) (z : Result (ℕ × ℕ) Refusal) → at + width_of c ≤ length b → x ≡ be (width_of c) b at → allowed_of c last x ≡ true
+    → z ≡ cells_of cs b (at + width_of c) (last_of c last x) → z ≡ cells_of (c ∷ cs) b at last
 unfolding cells_of
 cell-fine c cs b at last x z h e a q =
-    whole (width_of c) b at entry.Wrong
-    (λ y. when (allowed_of c last y) (cells_of entry.Wrong cs b (at + width_of c) (last_of c last y) entry.Next) (entry.Wrong (refusal 8 at))) z x h e
+    whole (width_of c) b at Err
+    (λ y. when (allowed_of c last y) (cells_of cs b (at + width_of c) (last_of c last y)) (Err (refusal.Value at))) z x h e
     (by-true _ _ _ (allowed_of c last x) a q)
 
-nothing-fine : (cs : List Cell) (b : List ℕ) (at last : ℕ) (z : Passed) → at ≤ length b → z ≡ cells_of entry.Wrong cs b (at + 0) last entry.Next → z ≡ cells_of entry.Wrong (Nothing ∷ cs) b at last entry.Next
+nothing-fine : (cs : List Cell) (b : List ℕ) (at last : ℕ) (z : Result (ℕ × ℕ) Refusal) → at ≤ length b → z ≡ cells_of cs b (at + 0) last → z ≡ cells_of (Nothing ∷ cs) b at last
 unfolding width_of allowed_of last_of
 nothing-fine cs b at last z h q = cell-fine Nothing cs b at last (be 0 b at) z (omega arith) refl refl q
 
-no_cells : (b : List ℕ) (at last : ℕ) → entry.Next at last ≡ cells_of entry.Wrong [] b at last entry.Next
+no_cells : (b : List ℕ) (at last : ℕ) → Ok (at, last) ≡ cells_of [] b at last
 unfolding cells_of
 no_cells b at last = refl
 
-next-entry : (n : ℕ) (cells : List Cell) (b : List ℕ) (at last p l : ℕ) → entry.Next p l ≡ entry_of cells b at last → entries_of n cells b p l ≡ Fine → entries_of (suc n) cells b at last ≡ Fine
+next-entry : (n : ℕ) (cells : List Cell) (b : List ℕ) (at last p l : ℕ) → Ok (p, l) ≡ entry_of cells b at last → entries_of n cells b p l ≡ (Ok tt) → entries_of (suc n) cells b at last ≡ (Ok tt)
 unfolding entries_of
 next-entry n cells b at last p l e q = sym (ap (step (λ p l. entries_of n cells b p l)) e) ∙ q
 
-no-entries : (cells : List Cell) (b : List ℕ) (at last : ℕ) → entries_of 0 cells b at last ≡ Fine
+no-entries : (cells : List Cell) (b : List ℕ) (at last : ℕ) → entries_of 0 cells b at last ≡ (Ok tt)
 unfolding entries_of
 no-entries cells b at last = refl
 
@@ -83,19 +83,19 @@ from_one last g h k = cases (eqb last 0) refl
     cases false e = lt-ltb last g h
 
 group-entry : (b p₁ p₂ p₃ q₁ q₂ q₃ : List ℕ) (at last g v : ℕ) → b ≡ p₁ ++ (bytes 4 g ++ q₁) → b ≡ p₂ ++ (bytes 4 v ++ q₂) → b ≡ p₃ ++ (bytes 4 1 ++ q₃) → at ≡ length p₁ → at + 4 ≡ length p₂ → at + 4 + 4 ≡ length p₃
-    → Small g → Small v → last < g → (last ≡ 0 → g ≡ 1) → 0 < v → entry.Next (at + 4 + 4 + 4 + 0) g ≡ entry_of stsc.cells b at last
+    → Small g → Small v → last < g → (last ≡ 0 → g ≡ 1) → 0 < v → Ok (at + 4 + 4 + 4 + 0, g) ≡ entry_of stsc.cells b at last
 unfolding width_of last_of
 group-entry b p₁ p₂ p₃ q₁ q₂ q₃ at last g v e₁ e₂ e₃ a₁ a₂ a₃ hg hv h k z =
     let w₁ = word-is b p₁ q₁ g at e₁ a₁ hg in
     let w₂ = word-is b p₂ q₂ v (at + 4) e₂ a₂ hv in
     let w₃ = word-is b p₃ q₃ 1 (at + 4 + 4) e₃ a₃ (omega arith) in
-    cell-fine (FromOne 4) (Least 4 1 ∷ Any 4 ∷ Nothing ∷ []) b at last g (entry.Next (at + 4 + 4 + 4 + 0) g) w₁.0 w₁.1 (from_one last g h k)
-    (cell-fine (Least 4 1) (Any 4 ∷ Nothing ∷ []) b (at + 4) g v (entry.Next (at + 4 + 4 + 4 + 0) g) w₂.0 w₂.1 (least g v z)
-    (cell-fine (Any 4) (Nothing ∷ []) b (at + 4 + 4) g 1 (entry.Next (at + 4 + 4 + 4 + 0) g) w₃.0 w₃.1 (any g 1)
-    (nothing-fine [] b (at + 4 + 4 + 4) g (entry.Next (at + 4 + 4 + 4 + 0) g) w₃.0 (no_cells b (at + 4 + 4 + 4 + 0) g))))
+    cell-fine (FromOne 4) (Least 4 1 ∷ Any 4 ∷ Nothing ∷ []) b at last g (Ok (at + 4 + 4 + 4 + 0, g)) w₁.0 w₁.1 (from_one last g h k)
+    (cell-fine (Least 4 1) (Any 4 ∷ Nothing ∷ []) b (at + 4) g v (Ok (at + 4 + 4 + 4 + 0, g)) w₂.0 w₂.1 (least g v z)
+    (cell-fine (Any 4) (Nothing ∷ []) b (at + 4 + 4) g 1 (Ok (at + 4 + 4 + 4 + 0, g)) w₃.0 w₃.1 (any g 1)
+    (nothing-fine [] b (at + 4 + 4 + 4) g (Ok (at + 4 + 4 + 4 + 0, g)) w₃.0 (no_cells b (at + 4 + 4 + 4 + 0) g))))
 
 groups-from : (b : List ℕ) (g : ℕ) (rs : List Row) (pre post : List ℕ) (at last : ℕ) → b ≡ pre ++ (words_of (group_words g rs) ++ post) → at ≡ length pre → Fit g rs → All (Right (λ (v : ℕ). 0 < v)) rs → last < g → (last ≡ 0 → g ≡ 1)
-    → entries_of (length rs) stsc.cells b at last ≡ Fine
+    → entries_of (length rs) stsc.cells b at last ≡ (Ok tt)
 groups-from b g [] pre post at last e a Fit.none nothing h k = no-entries stsc.cells b at last
 groups-from b g (r ∷ rs) pre post at last e a (Fit.one f v i) (each q qs) h k =
     let w = words_of (group_words (g + r.count) rs) in
@@ -115,7 +115,7 @@ groups-from b g (r ∷ rs) pre post at last e a (Fit.one f v i) (each q qs) h k 
     (e₂ ∙ ap (λ (y : List ℕ). p₂ ++ y) (append_assoc (bytes 4 1) w post)) a (omega arith) (omega arith) f v h k q.own)
     (groups-from b (g + r.count) rs (p₂ ++ bytes 4 1) post (at + 4 + 4 + 4 + 0) g e₃ (omega arith) i qs (omega (arith, q.some)) (λ y. absurd (omega arith)))
 
-pub groups-fine : (rs : List Row) → Fit 1 rs → All (Right (λ (v : ℕ). 0 < v)) rs → entries_of (length rs) stsc.cells (words_of (group_words 1 rs)) 0 0 ≡ Fine
+pub groups-fine : (rs : List Row) → Fit 1 rs → All (Right (λ (v : ℕ). 0 < v)) rs → entries_of (length rs) stsc.cells (words_of (group_words 1 rs)) 0 0 ≡ (Ok tt)
 groups-fine rs f q = groups-from (words_of (group_words 1 rs)) 1 rs [] [] 0 0 (sym (append-nil (words_of (group_words 1 rs)))) refl f q (omega arith) (λ y. refl)
 
 -- STSS
@@ -134,19 +134,19 @@ syncs-rise last i (x ∷ l) h = cases (eqb x 0) (syncs-rise last (i + 1) l (omeg
     cases true r s = r
     cases false r s = let k : last < i + 1 = omega arith in Rises.one k s
 
-numbers-from : (b ns pre post : List ℕ) (at last : ℕ) → b ≡ pre ++ (words_of ns ++ post) → at ≡ length pre → All Small ns → Rises last ns → entries_of (length ns) stss.cells b at last ≡ Fine
+numbers-from : (b ns pre post : List ℕ) (at last : ℕ) → b ≡ pre ++ (words_of ns ++ post) → at ≡ length pre → All Small ns → Rises last ns → entries_of (length ns) stss.cells b at last ≡ (Ok tt)
 unfolding width_of last_of
 numbers-from b [] pre post at last e a nothing Rises.none = no-entries stss.cells b at last
 numbers-from b (x ∷ ns) pre post at last e a (each f fs) (Rises.one h hs) =
     let w = word-is b pre (words_of ns ++ post) x at (e ∙ ap (λ (y : List ℕ). pre ++ y) (append_assoc (bytes 4 x) (words_of ns) post)) a f in
     let l₁ : length (pre ++ bytes 4 x) ≡ length pre + 4 = length-append pre (bytes 4 x) ∙ ap (λ (n : ℕ). length pre + n) (length-bytes 4 x) in
-    let go : entry.Next (at + 4 + 0 + 0 + 0) x ≡ entry_of stss.cells b at last =
-    cell-fine (Rising 4) (Nothing ∷ Nothing ∷ Nothing ∷ []) b at last x (entry.Next (at + 4 + 0 + 0 + 0) x) w.0 w.1 (rising last x h)
-    (nothing-fine (Nothing ∷ Nothing ∷ []) b (at + 4) x (entry.Next (at + 4 + 0 + 0 + 0) x) w.0
-    (nothing-fine (Nothing ∷ []) b (at + 4 + 0) x (entry.Next (at + 4 + 0 + 0 + 0) x) (omega (arith, w.0))
-    (nothing-fine [] b (at + 4 + 0 + 0) x (entry.Next (at + 4 + 0 + 0 + 0) x) (omega (arith, w.0)) (no_cells b (at + 4 + 0 + 0 + 0) x)))) in
+    let go : Ok (at + 4 + 0 + 0 + 0, x) ≡ entry_of stss.cells b at last =
+    cell-fine (Rising 4) (Nothing ∷ Nothing ∷ Nothing ∷ []) b at last x (Ok (at + 4 + 0 + 0 + 0, x)) w.0 w.1 (rising last x h)
+    (nothing-fine (Nothing ∷ Nothing ∷ []) b (at + 4) x (Ok (at + 4 + 0 + 0 + 0, x)) w.0
+    (nothing-fine (Nothing ∷ []) b (at + 4 + 0) x (Ok (at + 4 + 0 + 0 + 0, x)) (omega (arith, w.0))
+    (nothing-fine [] b (at + 4 + 0 + 0) x (Ok (at + 4 + 0 + 0 + 0, x)) (omega (arith, w.0)) (no_cells b (at + 4 + 0 + 0 + 0) x)))) in
     next-entry (length ns) stss.cells b at last (at + 4 + 0 + 0 + 0) x go
     (numbers-from b ns (pre ++ bytes 4 x) post (at + 4 + 0 + 0 + 0) x (e ∙ next_place pre post (words_of ns) x) (omega arith) fs hs)
 
-pub numbers-fine : (ns : List ℕ) → All Small ns → Rises 0 ns → entries_of (length ns) stss.cells (words_of ns) 0 0 ≡ Fine
+pub numbers-fine : (ns : List ℕ) → All Small ns → Rises 0 ns → entries_of (length ns) stss.cells (words_of ns) 0 0 ≡ (Ok tt)
 numbers-fine ns f h = numbers-from (words_of ns) ns [] [] 0 0 (sym (append-nil (words_of ns))) refl f h

@@ -13,3 +13,5 @@ pub mod Written
 mod Vectors
 pub mod Find
 pub mod Longer
+pub mod Told
+mod Unique

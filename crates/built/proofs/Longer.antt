@@ -1,4 +1,5 @@
 -- A buffer may hold more than the samples' records: the sample table of the first n records is the same. Assumes nothing.
+use Rattle.std.specs.Prelude.{Err}
 use Prim.Native.Nat.{ℕ, suc, ◌+◌, ◌-◌, ◌*◌, ◌^◌, ◌≤◌, ◌<◌}
 use mathlib.Core.Path.{◌≡◌, refl, sym, ap, ap₂, ◌∙◌}
 use mathlib.Core.List.{List, [], ◌∷◌, ◌++◌, append_assoc}
@@ -8,9 +9,9 @@ use lib.ListN.{length, get_or, length-append, get_or-append}
 use lib.Seq.{get_or-append-add}
 use lib.Dec.{eqb, leb, ltb}
 use borrow.Author.Tests.{le-leb}
-use Rattle.numbers.specs.Field.{refusal, when}
+use Rattle.numbers.specs.Field.{when}
+use Rattle.numbers.specs.declared.Refusal.TheVariants as refusal
 use Rattle.put.specs.Put.{Wrote, wrote}
-use Rattle.put.specs.declared.Put.TheVariants.{Refused}
 use Rattle.layout.specs.Write.{full, place}
 use Rattle.places.specs.Kinds as kinds
 use Rattle.samples.specs.declared.Sample.{Sample}
@@ -132,5 +133,5 @@ module _ (l : List Sample) (more : List ℕ) where
     where
       answer : Bool → Bool → List ℕ → Wrote
       answer there fits bs =
-          when (eqb scale 0) (wrote (Refused (refusal 8 0)) o)
-          (when there (when (ltb (length l) (2 ^ 32)) (when fits (place o bs) (wrote (Refused (refusal 13 0)) o)) (wrote (Refused (refusal 13 0)) o)) (wrote (Refused (refusal 11 (length l))) o))
+          when (eqb scale 0) (wrote (Err (refusal.Value 0)) o)
+          (when there (when (ltb (length l) (2 ^ 32)) (when fits (place o bs) (wrote (Err refusal.Unwritable) o)) (wrote (Err refusal.Unwritable) o)) (wrote (Err (refusal.NoSample (length l))) o))

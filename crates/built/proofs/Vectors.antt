@@ -1,5 +1,6 @@
 -- Worked examples: where the boxes of a sample table lie, and two samples that are written, stand in a file and are read
 -- back. So the theorem's premises hold of something. Assumes nothing.
+use Rattle.std.specs.Prelude.{Ok, Some, None}
 use mathlib.Core.Path.{◌≡◌, refl}
 use mathlib.Core.List.{List, [], ◌∷◌, ◌++◌}
 use mathlib.Core.Bool.{true, false}
@@ -10,7 +11,6 @@ use lib.ListN.{length, take, replicate}
 use Rattle.numbers.specs.Number.{bytes}
 use Rattle.numbers.specs.Field.{when}
 use Rattle.put.specs.Put.{wrote}
-use Rattle.put.specs.declared.Put.TheVariants.{Done}
 use Rattle.samples.specs.declared.Sample.{Sample}
 use Rattle.samples.specs.Records.{records_of}
 use Rattle.tables.specs.Samples.{samples_of}
@@ -24,8 +24,6 @@ use Rattle.chunking.specs.Chunking.{goes_on, step_of, finish_of}
 use Rattle.chunking.specs.Entries as chunking
 use Rattle.chunking.specs.Entries.{offset_words}
 use Rattle.stbl.specs.Stbl.{track_of}
-use Rattle.stbl.specs.declared.Span.TheVariants as span
-use Rattle.stbl.specs.declared.Found.TheVariants as found
 use Rattle.sampletable.specs.SampleTable.{list_of, per_of, kind_of, is_there, first_of, second_of, fits_in, stbl_of, stbl_in}
 use Rattle.built.specs.Written.{Stands, Of64}
 use Rattle.built.specs.Places.{boxes_at}
@@ -43,13 +41,13 @@ two = first ∷ second ∷ []
 
 -- behind four bytes that are handed in; all boxes are there but co64
 case-boxes : boxes_at 0 9000 (records_of two) 2 (1 ∷ 2 ∷ 3 ∷ 4 ∷ [])
-    ≡ record { stts = span.At 12 24; ctts = span.At 36 32; stsc = span.At 68 28; stsz = span.At 96 28; stco = span.At 124 20; co64 = span.Absent; stss = span.At 144 20 }
+    ≡ record { stts = Some (12, 24); ctts = Some (36, 32); stsc = Some (68, 28); stsz = Some (96, 28); stco = Some (124, 20); co64 = None; stss = Some (144, 20) }
 unfolding list_of per_of kind_of is_there first_of second_of common_in sync_word offset_words step_of finish_of goes_on low_at cell_of meets when merging.step_of merging.finish_of
 case-boxes = refl
 
 -- an empty track has neither ctts nor stss
 case-boxes-empty : boxes_at 100 1 [] 0 []
-    ≡ record { stts = span.At 108 16; ctts = span.Absent; stsc = span.At 124 16; stsz = span.At 140 20; stco = span.At 160 16; co64 = span.Absent; stss = span.Absent }
+    ≡ record { stts = Some (108, 16); ctts = None; stsc = Some (124, 16); stsz = Some (140, 20); stco = Some (160, 16); co64 = None; stss = None }
 unfolding list_of per_of kind_of is_there first_of second_of common_in sync_word offset_words step_of finish_of goes_on low_at cell_of meets when merging.step_of merging.finish_of
 case-boxes-empty = refl
 
@@ -57,7 +55,7 @@ abbrev table : List ℕ
 table = stbl_of 9000 (records_of two) 2 (1 ∷ 2 ∷ 3 ∷ 4 ∷ [])
 
 -- the writer does not refuse them
-case-written : stbl_in 9000 (records_of two) 2 (1 ∷ 2 ∷ 3 ∷ 4 ∷ []) (replicate 164 9) ≡ wrote (Done 164) table
+case-written : stbl_in 9000 (records_of two) 2 (1 ∷ 2 ∷ 3 ∷ 4 ∷ []) (replicate 164 9) ≡ wrote (Ok 164) table
 unfolding list_of per_of kind_of is_there first_of second_of fits_in chunking.fits_in common_in sync_word offset_words step_of finish_of goes_on low_at cell_of meets bytes when merging.step_of merging.finish_of
 case-written = refl
 
@@ -82,7 +80,7 @@ case-numbered : Numbered 0 0 two
 case-numbered = Numbered.one refl refl (Numbered.one refl refl Numbered.none)
 
 -- so what is read lists just these two
-case-read : (t : Track) × (track_of file (boxes_at 0 9000 (records_of two) 2 (1 ∷ 2 ∷ 3 ∷ 4 ∷ [])) ≡ found.Is t) × (samples_of file t ≡ two)
+case-read : (t : Track) × (track_of file (boxes_at 0 9000 (records_of two) 2 (1 ∷ 2 ∷ 3 ∷ 4 ∷ [])) ≡ Ok t) × (samples_of file t ≡ two)
 case-read =
     let h : length file < 2 ^ 64 = omega (arith, case-length) in
     written-reads-back file h two case-fit case-numbered 9000 (1 ∷ 2 ∷ 3 ∷ 4 ∷ []) (replicate 164 9) table 164 0 case-written case-stands

@@ -1,5 +1,6 @@
 -- What the sample table's writer has written, and stands in a file, stores the samples; so it reads back as just these.
 -- Assumes nothing.
+use Rattle.std.specs.Prelude.{Option, Ok, Err, Some, None}
 use Prim.Native.Nat.{ℕ, zero, suc, ◌+◌, ◌-◌, ◌*◌, ◌/◌, ◌%◌, ◌^◌, ◌≤◌, ◌<◌}
 use mathlib.Core.Path.{◌≡◌, refl, sym, ap, subst, ◌∙◌}
 use mathlib.Core.List.{List, [], ◌∷◌, ◌++◌, append_assoc}
@@ -10,15 +11,14 @@ use lib.Seq.{take_at}
 use lib.Dec.{eqb, leb, ltb}
 use borrow.Author.Tests.{eqb-true, eqb-false, leb-true, ltb-true, ltb-false}
 use Rattle.numbers.specs.Number.{bytes}
-use Rattle.numbers.specs.Field.{refusal, when}
+use Rattle.numbers.specs.Field.{when}
+use Rattle.numbers.specs.declared.Refusal.TheVariants as refusal
 use Rattle.numbers.proofs.Laws.{length-bytes}
 use Rattle.numbers.proofs.Chain.{by-true, by-false}
 use Rattle.put.specs.Put.{Wrote, wrote}
-use Rattle.put.specs.declared.Put.TheVariants.{Done, Refused}
 use Rattle.layout.specs.Write.{place}
 use Rattle.places.specs.Kinds as kinds
 use Rattle.rows.specs.Rows as rows
-use Rattle.rows.specs.declared.Judged.TheVariants.{Fine}
 use Rattle.samples.specs.declared.Sample.{Sample}
 use Rattle.samples.specs.Records.{records_of}
 use Rattle.tables.specs.Samples.{samples_of}
@@ -46,9 +46,6 @@ use Rattle.stsc.specs.Stsc as stsc
 use Rattle.stsz.specs.Stsz as stsz
 use Rattle.stss.specs.Stss as stss
 use Rattle.stbl.specs.Stbl.{track_of}
-use Rattle.stbl.specs.declared.Span.{Span}
-use Rattle.stbl.specs.declared.Span.TheVariants as span
-use Rattle.stbl.specs.declared.Found.TheVariants as found
 use Rattle.sampletable.specs.declared.Table.{Table}
 use Rattle.sampletable.specs.declared.Table.TheVariants.{Stts, Ctts, Stsc, Stsz, Offsets, Stss}
 use Rattle.sampletable.specs.SampleTable.{wide_in, list_of, per_of, kind_of, is_there, first_of, second_of, table_of, tables_of, box_of, stbl_of, stbl_in, fits_in}
@@ -89,8 +86,8 @@ split f a b at s =
     (stands-left f (words_of a) (words_of b) at t, stands-right f (words_of a) (words_of b) at (at + length a * 4) (ap (λ (k : ℕ). at + k) (sym (length-words a))) t)
 
 -- a table's box, whose numbers are `box`
-box-at : (f : List ℕ) (s : Span) (entries_in : List ℕ → Wrote) (box_in : List ℕ → List ℕ → Wrote) (ns box : List ℕ) (at : ℕ) → Gives (entries_in (words_of ns)) (words_of ns) → Gives (box_in (words_of ns) (words_of box)) (words_of box)
-    → s ≡ span.At at (length box * 4) → Stands f at (words_of box) → BoxAt f s entries_in box_in
+box-at : (f : List ℕ) (s : Option (ℕ × ℕ)) (entries_in : List ℕ → Wrote) (box_in : List ℕ → List ℕ → Wrote) (ns box : List ℕ) (at : ℕ) → Gives (entries_in (words_of ns)) (words_of ns) → Gives (box_in (words_of ns) (words_of box)) (words_of box)
+    → s ≡ Some (at, length box * 4) → Stands f at (words_of box) → BoxAt f s entries_in box_in
 box-at f s entries_in box_in ns box at b w e t =
     record {
       room = words_of ns;
@@ -100,35 +97,35 @@ box-at f s entries_in box_in ns box at b w e t =
       box = words_of box;
       written = w;
       start = at;
-      spanned = e ∙ ap (span.At at) (sym (length-words box));
+      spanned = e ∙ ap (λ b. Some (at, b)) (sym (length-words box));
       stands = t;
     }
 
 -- NO CHUNK IS EMPTY
 
-abbrev Some : Chunk → Type 0
-Some c = 0 < c.count
+abbrev NotEmpty : Chunk → Type 0
+NotEmpty c = 0 < c.count
 
-some-from : (t : ℕ) (c : Chunk) (ps : List Piece) → All Some (chunks_from t c ps)
+some-from : (t : ℕ) (c : Chunk) (ps : List Piece) → All NotEmpty (chunks_from t c ps)
 some-from t c [] = cases (eqb c.count 0) refl
   where
-    cases : (x : Bool) → eqb c.count 0 ≡ x → All Some (closed_of (finish_of c))
-    cases true z = subst (λ s. All Some (closed_of s)) (finish-none c (eqb-true c.count 0 z)) nothing
+    cases : (x : Bool) → eqb c.count 0 ≡ x → All NotEmpty (closed_of (finish_of c))
+    cases true z = subst (λ s. All NotEmpty (closed_of s)) (finish-none c (eqb-true c.count 0 z)) nothing
     cases false z =
         let k = eqb-false c.count 0 z in
         let h : 0 < c.count = omega arith in
-        subst (λ s. All Some (closed_of s)) (finish-chunk c k) (each h nothing)
+        subst (λ s. All NotEmpty (closed_of s)) (finish-chunk c k) (each h nothing)
 some-from t c (p ∷ ps) = by_count (eqb c.count 0) refl (some-from t (alone p) ps) (some-from t (joined c p) ps)
   where
-    by-joining : (c.count ≡ 0 → ⊥) → (x : Bool) → goes_on t c p.offset ≡ x → All Some (chunks_from t (alone p) ps) → All Some (chunks_from t (joined c p) ps) → All Some (closed_of (step_of t c p) ++ chunks_from t (open_of (step_of t c p)) ps)
-    by-joining z true e one more = subst (λ s. All Some (closed_of s ++ chunks_from t (open_of s) ps)) (step-joined t c p z e) more
-    by-joining z false e one more = let h : 0 < c.count = omega arith in subst (λ s. All Some (closed_of s ++ chunks_from t (open_of s) ps)) (step-closed t c p z e) (each h one)
+    by-joining : (c.count ≡ 0 → ⊥) → (x : Bool) → goes_on t c p.offset ≡ x → All NotEmpty (chunks_from t (alone p) ps) → All NotEmpty (chunks_from t (joined c p) ps) → All NotEmpty (closed_of (step_of t c p) ++ chunks_from t (open_of (step_of t c p)) ps)
+    by-joining z true e one more = subst (λ s. All NotEmpty (closed_of s ++ chunks_from t (open_of s) ps)) (step-joined t c p z e) more
+    by-joining z false e one more = let h : 0 < c.count = omega arith in subst (λ s. All NotEmpty (closed_of s ++ chunks_from t (open_of s) ps)) (step-closed t c p z e) (each h one)
 
-    by_count : (x : Bool) → eqb c.count 0 ≡ x → All Some (chunks_from t (alone p) ps) → All Some (chunks_from t (joined c p) ps) → All Some (closed_of (step_of t c p) ++ chunks_from t (open_of (step_of t c p)) ps)
-    by_count true z one more = subst (λ s. All Some (closed_of s ++ chunks_from t (open_of s) ps)) (step-first t c p (eqb-true c.count 0 z)) one
+    by_count : (x : Bool) → eqb c.count 0 ≡ x → All NotEmpty (chunks_from t (alone p) ps) → All NotEmpty (chunks_from t (joined c p) ps) → All NotEmpty (closed_of (step_of t c p) ++ chunks_from t (open_of (step_of t c p)) ps)
+    by_count true z one more = subst (λ s. All NotEmpty (closed_of s ++ chunks_from t (open_of s) ps)) (step-first t c p (eqb-true c.count 0 z)) one
     by_count false z one more = by-joining (eqb-false c.count 0 z) (goes_on t c p.offset) refl one more
 
-some-counts : (cs : List Chunk) → All Some cs → All (λ (v : ℕ). 0 < v) (chunking.counts_of cs)
+some-counts : (cs : List Chunk) → All NotEmpty cs → All (λ (v : ℕ). 0 < v) (chunking.counts_of cs)
 some-counts [] nothing = nothing
 some-counts (c ∷ cs) (each h k) = each h (some-counts cs k)
 
@@ -195,12 +192,12 @@ module _ (scale : ℕ) (rs : List ℕ) (n : ℕ) where
 
 -- THE BOXES
 
-span-there : (scale : ℕ) (rs : List ℕ) (n : ℕ) (b : Bool) (t : Table) (at : ℕ) (box : List ℕ) → b ≡ true → table_of t scale rs n ≡ box → span_if scale rs n b t at ≡ span.At at (length box * 4)
+span-there : (scale : ℕ) (rs : List ℕ) (n : ℕ) (b : Bool) (t : Table) (at : ℕ) (box : List ℕ) → b ≡ true → table_of t scale rs n ≡ box → span_if scale rs n b t at ≡ Some (at, length box * 4)
 span-there scale rs n b t at box e q =
-    sym (by-true (span.At at (length (table_of t scale rs n) * 4)) span.Absent _ b e refl) ∙ ap (λ (x : List ℕ). span.At at (length x * 4)) q
+    sym (by-true (Some (at, length (table_of t scale rs n) * 4)) None _ b e refl) ∙ ap (λ (x : List ℕ). Some (at, length x * 4)) q
 
-span-absent : (scale : ℕ) (rs : List ℕ) (n : ℕ) (b : Bool) (t : Table) (at : ℕ) → b ≡ false → span_if scale rs n b t at ≡ span.Absent
-span-absent scale rs n b t at e = sym (by-false (span.At at (length (table_of t scale rs n) * 4)) span.Absent _ b e refl)
+span-absent : (scale : ℕ) (rs : List ℕ) (n : ℕ) (b : Bool) (t : Table) (at : ℕ) → b ≡ false → span_if scale rs n b t at ≡ None
+span-absent scale rs n b t at e = sym (by-false (Some (at, length (table_of t scale rs n) * 4)) None _ b e refl)
 
 ctts-written : (rs : List ℕ) (n : ℕ) (b : Bool) → all_meet Zero (column_of rs n 5) ≡ b → is_there Ctts rs n ≡ not b
 unfolding is_there
@@ -293,7 +290,7 @@ module _ (f : List ℕ) (l : List Sample) (w : All Of64 l) (scale : ℕ) (g : Re
           (shifts-gives kinds.ctts (length ns / 2) ns (omega (arith, b)) b (length ns / 2 * 2 * 4) (omega arith))
           (span-there scale rs n (is_there Ctts rs n) Ctts at _ (ctts-written rs n false q) e) (subst (λ (x : List ℕ). Stands f at (words_of x)) e s))
 
-  stsc-fine : rows.entries_of (length (chunking.groups_in scale rs n) / 3) stsc.cells (words_of (chunking.groups_in scale rs n)) 0 0 ≡ Fine
+  stsc-fine : rows.entries_of (length (chunking.groups_in scale rs n) / 3) stsc.cells (words_of (chunking.groups_in scale rs n)) 0 0 ≡ (Ok tt)
   stsc-fine =
       let b = chunked-given scale rs n (chunking.groups_in scale rs n) _ _ (stsc-given scale rs n g) in
       let t = fits_both rs n b.fits in
@@ -358,7 +355,7 @@ module _ (f : List ℕ) (l : List Sample) (w : All Of64 l) (scale : ℕ) (g : Re
           let e = stss-table scale rs n q in
           let b = fits-box _ _ k e in
           let small : All Small (builder.syncs_from 0 (flags_of l)) = syncs-small 0 (flags_of l) (omega (arith, g.counted, length-flags l)) in
-          let fine : rows.entries_of (length (builder.syncs_in rs n)) stss.cells (words_of (builder.syncs_in rs n)) 0 0 ≡ Fine =
+          let fine : rows.entries_of (length (builder.syncs_in rs n)) stss.cells (words_of (builder.syncs_in rs n)) 0 0 ≡ (Ok tt) =
           ap (λ (x : List ℕ). rows.entries_of (length x) stss.cells (words_of x) 0 0) (flags-syncs l) ∙ numbers-fine (builder.syncs_from 0 (flags_of l)) small (syncs-rise 0 0 (flags_of l) (omega arith)) in
           StssAt.present (record { version = 0; flags = 0; count = length ns })
           (box-at f _ (builder.stss_of rs n) _ ns (box_of kinds.stss (length ns ∷ ns)) at (stss-given scale rs n g)
@@ -425,19 +422,19 @@ pub record Wrote32 (scale : ℕ) (rs : List ℕ) (n : ℕ) (stsd : List ℕ) (bs
   pub small : length (stbl_of scale rs n stsd) < 2 ^ 32
   pub bytes : bs ≡ stbl_of scale rs n stsd
 
-pub written-given : (scale : ℕ) (rs : List ℕ) (n : ℕ) (stsd o out : List ℕ) (k : ℕ) → stbl_in scale rs n stsd o ≡ wrote (Done k) out → Wrote32 scale rs n stsd (take k out)
+pub written-given : (scale : ℕ) (rs : List ℕ) (n : ℕ) (stsd o out : List ℕ) (k : ℕ) → stbl_in scale rs n stsd o ≡ wrote (Ok k) out → Wrote32 scale rs n stsd (take k out)
 written-given scale rs n stsd o out k e =
     let bs = stbl_of scale rs n stsd in
     let x₄ = place o bs in
-    let x₃ = when (fits_in rs n) x₄ (wrote (Refused (refusal 13 0)) o) in
-    let x₂ = when (ltb n (2 ^ 32)) x₃ (wrote (Refused (refusal 13 0)) o) in
-    let a = not-refused-first (eqb scale 0) (when (leb (n * 7) (length rs)) x₂ (wrote (Refused (refusal 11 n)) o)) 8 0 k o out e in
-    let b = not-refused (leb (n * 7) (length rs)) x₂ 11 n k o out a.1 in
-    let c = not-refused (ltb n (2 ^ 32)) x₃ 13 0 k o out b.1 in
-    let d = not-refused (fits_in rs n) x₄ 13 0 k o out c.1 in
-    let x₅ = when (ltb (length o) (length bs)) (wrote (Refused (refusal 12 (length bs))) o) (wrote (Done (length bs)) (bs ++ drop (length bs) o)) in
-    let p = not-refused-first (ltb (2 ^ 32 - 1) (length bs)) x₅ 13 0 k o out d.1 in
-    let q = not-refused-first (ltb (length o) (length bs)) (wrote (Done (length bs)) (bs ++ drop (length bs) o)) 12 (length bs) k o out p.1 in
+    let x₃ = when (fits_in rs n) x₄ (wrote (Err refusal.Unwritable) o) in
+    let x₂ = when (ltb n (2 ^ 32)) x₃ (wrote (Err refusal.Unwritable) o) in
+    let a = not-refused-first (eqb scale 0) (when (leb (n * 7) (length rs)) x₂ (wrote (Err (refusal.NoSample n)) o)) (refusal.Value 0) k o out e in
+    let b = not-refused (leb (n * 7) (length rs)) x₂ (refusal.NoSample n) k o out a.1 in
+    let c = not-refused (ltb n (2 ^ 32)) x₃ refusal.Unwritable k o out b.1 in
+    let d = not-refused (fits_in rs n) x₄ refusal.Unwritable k o out c.1 in
+    let x₅ = when (ltb (length o) (length bs)) (wrote (Err (refusal.TooSmall (length bs))) o) (wrote (Ok (length bs)) (bs ++ drop (length bs) o)) in
+    let p = not-refused-first (ltb (2 ^ 32 - 1) (length bs)) x₅ refusal.Unwritable k o out d.1 in
+    let q = not-refused-first (ltb (length o) (length bs)) (wrote (Ok (length bs)) (bs ++ drop (length bs) o)) (refusal.TooSmall (length bs)) k o out p.1 in
     let h : length (stbl_of scale rs n stsd) ≤ 2 ^ 32 - 1 = ltb-false (2 ^ 32 - 1) (length (stbl_of scale rs n stsd)) p.0 in
     let r = q.1 in
     let same : length (stbl_of scale rs n stsd) ≡ k = cc in
@@ -452,8 +449,8 @@ written-given scale rs n stsd o out k e =
 -- before it, that the writer does not refuse: where the bytes that it wrote stand in a file, the track that is read from
 -- the boxes there lists exactly these samples. `boxes_at` says where the boxes are.
 module _ (f : List ℕ) (h : length f < 2 ^ 64) (l : List Sample) (w : All Of64 l) (m : Numbered 0 0 l) (scale : ℕ) (stsd o out : List ℕ) (k start : ℕ) where
-  pub written-reads-back : stbl_in scale (records_of l) (length l) stsd o ≡ wrote (Done k) out → Stands f start (take k out)
-      → (t : Track) × (track_of f (boxes_at start scale (records_of l) (length l) stsd) ≡ found.Is t) × (samples_of f t ≡ l)
+  pub written-reads-back : stbl_in scale (records_of l) (length l) stsd o ≡ wrote (Ok k) out → Stands f start (take k out)
+      → (t : Track) × (track_of f (boxes_at start scale (records_of l) (length l) stsd) ≡ Ok t) × (samples_of f t ≡ l)
   unfolding Fits32
   written-reads-back e s =
       let x = written-given scale (records_of l) (length l) stsd o out k e in

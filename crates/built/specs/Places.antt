@@ -1,12 +1,10 @@
 -- Where the boxes of a sample table lie that is written from samples (SampleTable.antt of sampletable) and begins at
 -- `start` in a file: behind its own header and the sample descriptions, one behind the other. Assumes nothing.
-use Rattle.std.specs.Prelude.{ℕ, ◌+◌, ◌*◌, List, Bool, true, not, length}
+use Rattle.std.specs.Prelude.{ℕ, ◌+◌, ◌*◌, List, Bool, true, not, length, Option, Some, None}
 use Rattle.numbers.specs.Field.{when}
 use Rattle.sampletable.specs.declared.Table.{Table}
 use Rattle.sampletable.specs.declared.Table.TheVariants.{Stts, Ctts, Stsc, Stsz, Offsets, Stss}
 use Rattle.sampletable.specs.SampleTable.{wide_in, is_there, table_of}
-use Rattle.stbl.specs.declared.Span.{Span}
-use Rattle.stbl.specs.declared.Span.TheVariants as span
 use Rattle.stbl.specs.declared.Boxes.{Boxes}
 
 module _ (scale : ℕ) (rs : List ℕ) (n : ℕ) where
@@ -15,8 +13,8 @@ module _ (scale : ℕ) (rs : List ℕ) (n : ℕ) where
   behind t at = at + length (table_of t scale rs n) * 4
 
   -- a table's box, where it is written and a test says so
-  abbrev pub span_if : Bool → Table → ℕ → Span
-  span_if there t at = when there (span.At at (length (table_of t scale rs n) * 4)) span.Absent
+  abbrev pub span_if : Bool → Table → ℕ → Option (ℕ × ℕ)
+  span_if there t at = when there (Some (at, length (table_of t scale rs n) * 4)) None
 
   abbrev pub boxes_from : ℕ → Boxes
   boxes_from at = record {

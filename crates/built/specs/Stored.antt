@@ -1,7 +1,7 @@
 -- Samples stored in a file: the entries of each table are built from them, the box's own writer puts a box around the
 -- entries, and the boxes stand in the file (01, Writer; A56 to A59). No builder and no writer refuses; the buffers that
 -- are lent to them are any, and so is what else the file holds. Assumes nothing.
-use Rattle.std.specs.Prelude.{ℕ, ◌≡◌, List, [], true, false, length}
+use Rattle.std.specs.Prelude.{ℕ, ◌≡◌, List, [], true, false, length, Option, Some, None}
 use Rattle.put.specs.Put.{Wrote}
 use Rattle.samples.specs.declared.Sample.{Sample}
 use Rattle.samples.specs.Records.{records_of}
@@ -22,13 +22,11 @@ use Rattle.co64.specs.declared.Co64.{Co64}
 use Rattle.co64.specs.Co64.{co64_in}
 use Rattle.stss.specs.declared.Stss.{Stss}
 use Rattle.stss.specs.Stss.{stss_in}
-use Rattle.stbl.specs.declared.Span.{Span}
-use Rattle.stbl.specs.declared.Span.TheVariants as span
 use Rattle.stbl.specs.declared.Boxes.{Boxes}
 use Rattle.built.specs.Written.{Gives, Stands}
 
 -- a builder gives entries, a writer a box around them, and the box stands in the file
-pub record BoxAt (f : List ℕ) (s : Span) (entries_in : List ℕ → Wrote) (box_in : List ℕ → List ℕ → Wrote) : Type 0 where
+pub record BoxAt (f : List ℕ) (s : Option (ℕ × ℕ)) (entries_in : List ℕ → Wrote) (box_in : List ℕ → List ℕ → Wrote) : Type 0 where
   pub room : List ℕ
   pub entries : List ℕ
   pub built : Gives (entries_in room) entries
@@ -36,32 +34,32 @@ pub record BoxAt (f : List ℕ) (s : Span) (entries_in : List ℕ → Wrote) (bo
   pub box : List ℕ
   pub written : Gives (box_in entries out) box
   pub start : ℕ
-  pub spanned : s ≡ span.At start (length box)
+  pub spanned : s ≡ Some (start, length box)
   pub stands : Stands f start box
 
 module _ (f : List ℕ) (l : List Sample) where
   -- no box where there are no entries, which is where all composition offsets are 0 (A57)
-  pub data CttsAt (s : Span) : Type 0 where
-    absent : (room : List ℕ) → Gives (builder.ctts_of (records_of l) (length l) room) [] → s ≡ span.Absent → CttsAt s
+  pub data CttsAt (s : Option (ℕ × ℕ)) : Type 0 where
+    absent : (room : List ℕ) → Gives (builder.ctts_of (records_of l) (length l) room) [] → s ≡ None → CttsAt s
     present : (m : Ctts) → BoxAt f s (builder.ctts_of (records_of l) (length l)) (ctts_in m) → CttsAt s
 
   -- the size that all have in common, if any, and the number of samples (A58)
-  pub record StszAt (s : Span) : Type 0 where
+  pub record StszAt (s : Option (ℕ × ℕ)) : Type 0 where
     pub head : Stsz
     pub common : head.sample_size ≡ builder.common_in (records_of l) (length l)
     pub many : head.count ≡ length l
     pub box : BoxAt f s (builder.stsz_of (records_of l) (length l)) (stsz_in head)
 
   -- a box whenever there is a sample (A56)
-  pub data StssAt (s : Span) : Type 0 where
-    absent : l ≡ [] → s ≡ span.Absent → StssAt s
+  pub data StssAt (s : Option (ℕ × ℕ)) : Type 0 where
+    absent : l ≡ [] → s ≡ None → StssAt s
     present : (m : Stss) → BoxAt f s (builder.stss_of (records_of l) (length l)) (stss_in m) → StssAt s
 
   -- stco where all places of chunks have 32 bits, else co64
-  pub data ChunksAt (scale : ℕ) (narrow wide : Span) : Type 0 where
-    stco : (m : Stco) → chunking.any_wide (chunks_in scale (records_of l) (length l)) ≡ false → wide ≡ span.Absent
+  pub data ChunksAt (scale : ℕ) (narrow wide : Option (ℕ × ℕ)) : Type 0 where
+    stco : (m : Stco) → chunking.any_wide (chunks_in scale (records_of l) (length l)) ≡ false → wide ≡ None
         → BoxAt f narrow (chunking.offsets_of scale (records_of l) (length l)) (stco_in m) → ChunksAt scale narrow wide
-    co64 : (m : Co64) → chunking.any_wide (chunks_in scale (records_of l) (length l)) ≡ true → narrow ≡ span.Absent
+    co64 : (m : Co64) → chunking.any_wide (chunks_in scale (records_of l) (length l)) ≡ true → narrow ≡ None
         → BoxAt f wide (chunking.offsets_of scale (records_of l) (length l)) (co64_in m) → ChunksAt scale narrow wide
 
   -- all tables, with the chunks by a timescale; `b` says where in the file each box is

@@ -1,15 +1,14 @@
 -- What it is for bytes to be written, and to stand in a file. Assumes nothing.
-use Rattle.std.specs.Prelude.{ℕ, ◌*◌, ◌^◌, ◌<◌, ◌≡◌, List, ◌++◌, length, take}
+use Rattle.std.specs.Prelude.{ℕ, ◌*◌, ◌^◌, ◌<◌, ◌≡◌, List, ◌++◌, length, take, Ok}
 use Rattle.std.specs.Int.Signed.{mag}
 use Rattle.samples.specs.declared.Sample.{Sample}
 use Rattle.put.specs.Put.{Wrote, wrote}
-use Rattle.put.specs.declared.Put.TheVariants.{Done}
 
 -- an answer that is no refusal, with these bytes at the buffer's start
 pub record Gives (x : Wrote) (es : List ℕ) : Type 0 where
   pub size : ℕ
   pub buffer : List ℕ
-  pub done : x ≡ wrote (Done size) buffer
+  pub done : x ≡ wrote (Ok size) buffer
   pub bytes : take size buffer ≡ es
 
 -- the bytes stand in a file, the first of them at that place

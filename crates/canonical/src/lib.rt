@@ -1,11 +1,10 @@
-#![tactic(auto)]
+#![tactic(auto, unfolding(numbers::specs::Field::when, numbers::specs::Field::field))]
 // Whether a box that is a row of fields (`layout`) is canonical: byte for byte as its writer writes it.
 ghost use Rattle.std.specs.Prelude.{◌≡◌, ◌≤◌, length};
 ghost use Rattle.layout.specs.Canonical.{exact, canonical_of, ours};
 
 use layout::rule::Rule;
 use layout::{Field, rule};
-use numbers::{U32, U64};
 
 // A value that is written in a field: in its range, and its own where it has one.
 fn is_ours(r: Rule, x: u64) -> bool
@@ -36,7 +35,7 @@ fn row_is(b: &[u8], row: [Field; 24], rest: u64) -> bool
         let f = row[i];
         let r = rule::rule_of(f, version, flags);
         let width = r.width;
-        let U64::Is(x) = numbers::number_at(b, at, width) else {
+        let Ok(x) = numbers::number_at(b, at, width) else {
             return false;
         };
         if !is_ours(r, x) {
@@ -59,13 +58,13 @@ fn row_is(b: &[u8], row: [Field; 24], rest: u64) -> bool
 pub fn by(b: &[u8], kind: u32, row: [Field; 24], rest: u64) -> bool
     ensures { result ≡ canonical_of kind row rest b.now }
 {
-    let U32::Is(size) = numbers::u32_at(b, 0) else {
+    let Ok(size) = numbers::read::<u32>(b, 0) else {
         return false;
     };
     if size as usize != b.len() {
         return false;
     }
-    let U32::Is(found) = numbers::u32_at(b, 4) else {
+    let Ok(found) = numbers::read::<u32>(b, 4) else {
         return false;
     };
     if found != kind {

@@ -1,25 +1,20 @@
 -- The walk over children: each turn of the loop is a step of the definition. Assumes nothing.
+use Rattle.std.specs.Prelude.{Result, Option, Ok, Err, Some, None}
 use mathlib.Core.Path.{◌≡◌, refl, sym, ap, ◌∙◌}
 use mathlib.Core.List.{List}
 use mathlib.Core.Bool.{Bool, true, false}
 use Prim.Native.Nat.{ℕ, zero, suc, ◌+◌, ◌-◌, ◌<◌, ◌≤◌}
 use native.Mathlib.Omega.{arith}
-use lib.ListN.{length, take}
+use lib.ListN.{length}
 use lib.Dec.{ltb}
 use borrow.Author.Tests.{lt-ltb, le-ltb, ltb-true, ltb-false}
-use Rattle.numbers.specs.Field.{refusal, when}
+use Rattle.numbers.specs.Field.{when}
 use Rattle.numbers.specs.declared.Refusal.{Refusal}
 use Rattle.numbers.proofs.Chain.{is_eq, is_ne}
 use Rattle.boxes.specs.Header.{header_of}
 use Rattle.boxes.specs.declared.header.Header.{Header}
-use Rattle.boxes.specs.declared.header.Found.{Found}
-use Rattle.boxes.specs.declared.header.Found.TheVariants as found
 use Rattle.boxes.proofs.Within.{Within, header-within}
-use Rattle.layout.specs.declared.read.Fields.{Fields}
-use Rattle.rows.specs.declared.Judged.TheVariants.{Fine, Wrong}
-use Rattle.children.specs.Children.{end, fault, box, headed, row_of, first_in, nth_in, whole_in, inside, bytes_of, child_of}
-use Rattle.children.specs.declared.Child.{Child}
-use Rattle.children.specs.declared.Child.TheVariants as child
+use Rattle.children.specs.Children.{end, fault, box, headed, row_of, first_in, nth_in, whole_in, bytes_of, child_of}
 
 module _ (s : List ℕ) where
   -- no byte is left
@@ -40,10 +35,10 @@ module _ (s : List ℕ) where
   enough zero g at h l = sym (spent g at (omega arith))
   enough (suc f) g at h l = by (ltb at (length s)) refl (enough f)
     where
-      on : (k : ℕ) (x : Found) → header_of s at false ≡ x → length s - at ≤ suc k → at < length s → ((g at : ℕ) → length s - at ≤ f → length s - at ≤ g → row_of f s at ≡ row_of g s at) →
+      on : (k : ℕ) (x : Result Header Refusal) → header_of s at false ≡ x → length s - at ≤ suc k → at < length s → ((g at : ℕ) → length s - at ≤ f → length s - at ≤ g → row_of f s at ≡ row_of g s at) →
           headed at (row_of f s) x ≡ headed at (row_of k s) x
-      on k (found.Refused q) e l i ih = refl
-      on k (found.Is x) e l i ih =
+      on k (Err q) e l i ih = refl
+      on k (Ok x) e l i ih =
           let w : Within s at x = header-within s at x false e in
           ap (box x.kind at) (ih k (at + x.size) (omega (arith, w.some, w.whole)) (omega (arith, w.some, w.whole)))
 
@@ -58,75 +53,67 @@ module _ (s : List ℕ) where
           ∙ on u.0 (header_of s at false) refl (omega (arith, u.1)) i ih ∙ sym u.2
 
   module _ (f at : ℕ) (h : at < length s) (l : length s - at ≤ f) where
-    broken : (q : Refusal) → header_of s at false ≡ found.Refused q → row_of f s at ≡ fault q
+    broken : (q : Refusal) → header_of s at false ≡ Err q → row_of f s at ≡ fault q
     broken q e = let t = turn f at h l in t.2 ∙ ap (headed at (row_of t.0 s)) e
 
     -- a box, and what is left behind it
-    passed : (x : Header) → header_of s at false ≡ found.Is x → (g : ℕ) × (length s - (at + x.size) ≤ g) × (row_of f s at ≡ box x.kind at (row_of g s (at + x.size)))
+    passed : (x : Header) → header_of s at false ≡ Ok x → (g : ℕ) × (length s - (at + x.size) ≤ g) × (row_of f s at ≡ box x.kind at (row_of g s (at + x.size)))
     passed x e =
         let t = turn f at h l in
         let w : Within s at x = header-within s at x false e in
         (t.0, omega (arith, t.1, w.some, w.whole), t.2 ∙ ap (headed at (row_of t.0 s)) e)
 
-    pub first-fault : (kind : ℕ) (q : Refusal) → header_of s at false ≡ found.Refused q → child.Refused q ≡ first_in kind (row_of f s at)
+    pub first-fault : (kind : ℕ) (q : Refusal) → header_of s at false ≡ Err q → Err q ≡ first_in kind (row_of f s at)
     unfolding first_in
     first-fault kind q e = sym (ap (first_in kind) (broken q e))
 
-    pub is-first : (kind : ℕ) (x : Header) → header_of s at false ≡ found.Is x → x.kind ≡ kind → child.At at ≡ first_in kind (row_of f s at)
+    pub is-first : (kind : ℕ) (x : Header) → header_of s at false ≡ Ok x → x.kind ≡ kind → Ok (Some at) ≡ first_in kind (row_of f s at)
     unfolding first_in
     is-first kind x e k = let p = passed x e in is_eq _ (first_in kind (row_of p.0 s (at + x.size))) _ x.kind kind k refl ∙ sym (ap (first_in kind) p.2)
 
-    pub not_first : (kind : ℕ) (x : Header) → header_of s at false ≡ found.Is x → (x.kind ≡ kind → ⊥) → (z : Child) → first_in kind (row_of f s at) ≡ z →
+    pub not_first : (kind : ℕ) (x : Header) → header_of s at false ≡ Ok x → (x.kind ≡ kind → ⊥) → (z : Result (Option ℕ) Refusal) → first_in kind (row_of f s at) ≡ z →
         (g : ℕ) × (length s - (at + x.size) ≤ g) × (first_in kind (row_of g s (at + x.size)) ≡ z)
     unfolding first_in
     not_first kind x e k z i =
         let p = passed x e in
-        (p.0, p.1, is_ne (child.At at) _ _ x.kind kind k refl ∙ sym (ap (first_in kind) p.2) ∙ i)
+        (p.0, p.1, is_ne (Ok (Some at)) _ _ x.kind kind k refl ∙ sym (ap (first_in kind) p.2) ∙ i)
 
-    pub nth-fault : (i : ℕ) (q : Refusal) → header_of s at false ≡ found.Refused q → child.Refused q ≡ nth_in i (row_of f s at)
+    pub nth-fault : (i : ℕ) (q : Refusal) → header_of s at false ≡ Err q → Err q ≡ nth_in i (row_of f s at)
     unfolding nth_in
     nth-fault i q e = sym (ap (nth_in i) (broken q e))
 
-    pub is-nth : (i : ℕ) (x : Header) → header_of s at false ≡ found.Is x → i ≡ 0 → child.At at ≡ nth_in i (row_of f s at)
+    pub is-nth : (i : ℕ) (x : Header) → header_of s at false ≡ Ok x → i ≡ 0 → Ok (Some at) ≡ nth_in i (row_of f s at)
     unfolding nth_in
     is-nth i x e k = let p = passed x e in is_eq _ (nth_in (i - 1) (row_of p.0 s (at + x.size))) _ i 0 k refl ∙ sym (ap (nth_in i) p.2)
 
-    pub not-nth : (i : ℕ) (x : Header) → header_of s at false ≡ found.Is x → (i ≡ 0 → ⊥) → (z : Child) → nth_in i (row_of f s at) ≡ z →
+    pub not-nth : (i : ℕ) (x : Header) → header_of s at false ≡ Ok x → (i ≡ 0 → ⊥) → (z : Result (Option ℕ) Refusal) → nth_in i (row_of f s at) ≡ z →
         (g : ℕ) × (length s - (at + x.size) ≤ g) × (nth_in (i - 1) (row_of g s (at + x.size)) ≡ z)
     unfolding nth_in
     not-nth i x e k z j =
         let p = passed x e in
-        (p.0, p.1, is_ne (child.At at) _ _ i 0 k refl ∙ sym (ap (nth_in i) p.2) ∙ j)
+        (p.0, p.1, is_ne (Ok (Some at)) _ _ i 0 k refl ∙ sym (ap (nth_in i) p.2) ∙ j)
 
-    pub whole-fault : (q : Refusal) → header_of s at false ≡ found.Refused q → Wrong q ≡ whole_in (row_of f s at)
+    pub whole-fault : (q : Refusal) → header_of s at false ≡ Err q → Err q ≡ whole_in (row_of f s at)
     unfolding whole_in
     whole-fault q e = sym (ap whole_in (broken q e))
 
-    pub one-whole : (x : Header) → header_of s at false ≡ found.Is x → (z : _) → whole_in (row_of f s at) ≡ z →
+    pub one-whole : (x : Header) → header_of s at false ≡ Ok x → (z : _) → whole_in (row_of f s at) ≡ z →
         (g : ℕ) × (length s - (at + x.size) ≤ g) × (whole_in (row_of g s (at + x.size)) ≡ z)
     unfolding whole_in
     one-whole x e z i = let p = passed x e in (p.0, p.1, sym (ap whole_in p.2) ∙ i)
 
-  pub none_first : (f at kind : ℕ) → length s ≤ at → child.Absent ≡ first_in kind (row_of f s at)
+  pub none_first : (f at kind : ℕ) → length s ≤ at → (Ok None) ≡ first_in kind (row_of f s at)
   unfolding first_in
   none_first f at kind h = sym (ap (first_in kind) (spent f at h))
 
-  pub none-nth : (f at i : ℕ) → length s ≤ at → child.Absent ≡ nth_in i (row_of f s at)
+  pub none-nth : (f at i : ℕ) → length s ≤ at → (Ok None) ≡ nth_in i (row_of f s at)
   unfolding nth_in
   none-nth f at i h = sym (ap (nth_in i) (spent f at h))
 
   -- a box that was looked for from the first byte on
-  pub looked-for : (kind : ℕ) (c : Child) → c ≡ first_in kind (row_of (length s - 0) s 0) → bytes_of s c ≡ child_of kind s
+  pub looked-for : (kind : ℕ) (c : Result (Option ℕ) Refusal) → c ≡ first_in kind (row_of (length s - 0) s 0) → bytes_of s c ≡ child_of kind s
   looked-for kind c e = ap (bytes_of s) (e ∙ ap (first_in kind) (enough (length s - 0) (length s) 0 (omega arith) (omega arith)))
 
-  pub all_whole : (f at : ℕ) → length s ≤ at → Fine ≡ whole_in (row_of f s at)
+  pub all_whole : (f at : ℕ) → length s ≤ at → (Ok tt) ≡ whole_in (row_of f s at)
   unfolding whole_in
   all_whole f at h = sym (ap whole_in (spent f at h))
-
--- a box's own fault, or the row of its children
-module _ (part : List ℕ) (g f : Fields) (e : g ≡ f) where
-  pub own-fault : (g.number ≡ 0 → ⊥) → fault (refusal g.number g.place) ≡ inside part f
-  own-fault h = is_ne (row_of (length (take g.end part) - g.place) (take g.end part) g.place) _ _ g.number 0 h refl ∙ ap (inside part) e
-
-  pub own_row : g.number ≡ 0 → row_of (length (take g.end part) - g.place) (take g.end part) g.place ≡ inside part f
-  own_row h = is_eq _ (fault (refusal g.number g.place)) _ g.number 0 h refl ∙ ap (inside part) e

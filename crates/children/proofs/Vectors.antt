@@ -1,19 +1,17 @@
 -- Worked examples of the definitions, computed. Assumes nothing.
+use Rattle.std.specs.Prelude.{Ok, Err, Some, None}
 use mathlib.Core.Path.{◌≡◌, refl}
 use mathlib.Core.List.{List, [], ◌∷◌, ◌++◌}
 use Prim.Native.Nat.{ℕ, ◌+◌}
 use lib.ListN.{replicate}
 use Rattle.numbers.specs.Number.{be, bytes}
-use Rattle.numbers.specs.Field.{refusal, field, when}
+use Rattle.numbers.specs.Field.{field, when}
+use Rattle.numbers.specs.declared.Refusal.TheVariants as refusal
 use Rattle.put.specs.Put.{wrote}
-use Rattle.put.specs.declared.Put.TheVariants as put
 use Rattle.layout.specs.Rule.{rule_of}
 use Rattle.layout.specs.Read.{one, decode}
 use Rattle.layout.specs.Write.{lay, encode}
-use Rattle.rows.specs.declared.Judged.TheVariants.{Fine, Wrong}
 use Rattle.children.specs.Children.{row_of, first_in, nth_in, whole_in, first_of, whole_of, place_of, content_of, container_in, child_of, nth_of}
-use Rattle.children.specs.declared.Child.TheVariants.{Absent, At, Refused}
-use Rattle.children.specs.declared.Place.TheVariants as place
 use Rattle.children.proofs.Example.{of}
 
 -- a type of parents, and three of children
@@ -34,49 +32,49 @@ abbrev several : List ℕ
 several = of a (1 ∷ []) ++ of b [] ++ of a []
 
 -- the first of each type, where it begins
-first-a : first_of home a (of home several ++ of k []) ≡ At 8
+first-a : first_of home a (of home several ++ of k []) ≡ Ok (Some 8)
 unfolding be bytes field when rule_of one decode row_of first_in whole_in
 first-a = refl
 
-first-b : first_of home b (of home several ++ of k []) ≡ At 17
+first-b : first_of home b (of home several ++ of k []) ≡ Ok (Some 17)
 unfolding be bytes field when rule_of one decode row_of first_in whole_in
 first-b = refl
 
 -- what lies behind the box is not in it
-no-k : first_of home k (of home several ++ of k []) ≡ Absent
+no-k : first_of home k (of home several ++ of k []) ≡ (Ok None)
 unfolding be bytes field when rule_of one decode row_of first_in whole_in
 no-k = refl
 
-place-b : place_of home b (of home several) ≡ place.At 17
+place-b : place_of home b (of home several) ≡ Some 17
 unfolding be bytes field when rule_of one decode row_of first_in whole_in
 place-b = refl
 
-whole-several : whole_of home (of home several) ≡ Fine
+whole-several : whole_of home (of home several) ≡ (Ok tt)
 unfolding be bytes field when rule_of one decode row_of first_in whole_in
 whole-several = refl
 
 -- a container may be empty
-whole-empty : whole_of home (of home []) ≡ Fine
+whole-empty : whole_of home (of home []) ≡ (Ok tt)
 unfolding be bytes field when rule_of one decode row_of first_in whole_in
 whole-empty = refl
 
 -- a box of another type is 8 at 4
-other-type : first_of home b (of a several) ≡ Refused (refusal 8 4)
+other-type : first_of home b (of a several) ≡ Err (refusal.Value 4)
 unfolding be bytes field when rule_of one decode row_of first_in whole_in
 other-type = refl
 
 -- the header's own fault: the box passes what is lent
-own-fault : whole_of home (bytes 4 9 ++ bytes 4 home) ≡ Wrong (refusal 1 0)
+own-fault : whole_of home (bytes 4 9 ++ bytes 4 home) ≡ Err (refusal.Cut 0)
 unfolding be bytes field when rule_of one decode row_of first_in whole_in
 own-fault = refl
 
 -- size 0 goes on to the end of what is lent
-to_the_end : first_of home b (bytes 4 0 ++ bytes 4 home ++ several) ≡ At 17
+to_the_end : first_of home b (bytes 4 0 ++ bytes 4 home ++ several) ≡ Ok (Some 17)
 unfolding be bytes field when rule_of one decode row_of first_in whole_in
 to_the_end = refl
 
 -- behind a header of 16 bytes the children begin at 16
-large : first_of home a (bytes 4 1 ++ bytes 4 home ++ bytes 8 24 ++ of a []) ≡ At 16
+large : first_of home a (bytes 4 1 ++ bytes 4 home ++ bytes 8 24 ++ of a []) ≡ Ok (Some 16)
 unfolding be bytes field when rule_of one decode row_of first_in whole_in
 large = refl
 
@@ -84,32 +82,32 @@ large = refl
 abbrev past : List ℕ
 past = of home (of a [] ++ bytes 4 9 ++ bytes 4 b) ++ bytes 1 0
 
-past_first : first_of home a past ≡ At 8
+past_first : first_of home a past ≡ Ok (Some 8)
 unfolding be bytes field when rule_of one decode row_of first_in whole_in
 past_first = refl
 
-past-behind : first_of home b past ≡ Refused (refusal 1 16)
+past-behind : first_of home b past ≡ Err (refusal.Cut 16)
 unfolding be bytes field when rule_of one decode row_of first_in whole_in
 past-behind = refl
 
-past-place : place_of home b past ≡ place.Absent
+past-place : place_of home b past ≡ None
 unfolding be bytes field when rule_of one decode row_of first_in whole_in
 past-place = refl
 
-past-whole : whole_of home past ≡ Wrong (refusal 1 16)
+past-whole : whole_of home past ≡ Err (refusal.Cut 16)
 unfolding be bytes field when rule_of one decode row_of first_in whole_in
 past-whole = refl
 
 -- a child with a size below 8 or, in a container, of 0 is 2; one whose header is cut is 1
-small : whole_of home (of home (of a [] ++ bytes 4 7 ++ bytes 4 b)) ≡ Wrong (refusal 2 16)
+small : whole_of home (of home (of a [] ++ bytes 4 7 ++ bytes 4 b)) ≡ Err (refusal.Size 16)
 unfolding be bytes field when rule_of one decode row_of first_in whole_in
 small = refl
 
-child-to-the-end : whole_of home (of home (bytes 4 0 ++ bytes 4 b)) ≡ Wrong (refusal 2 8)
+child-to-the-end : whole_of home (of home (bytes 4 0 ++ bytes 4 b)) ≡ Err (refusal.Size 8)
 unfolding be bytes field when rule_of one decode row_of first_in whole_in
 child-to-the-end = refl
 
-cut : whole_of home (of home (of a [] ++ bytes 3 0)) ≡ Wrong (refusal 1 16)
+cut : whole_of home (of home (of a [] ++ bytes 3 0)) ≡ Err (refusal.Cut 16)
 unfolding be bytes field when rule_of one decode row_of first_in whole_in
 cut = refl
 
@@ -161,10 +159,10 @@ no-content : content_of home (of a several) ≡ []
 unfolding be bytes field when rule_of one decode row_of first_in whole_in
 no-content = refl
 
-written : container_in home several (replicate 34 9) ≡ wrote (put.Done 33) (of home several ++ replicate 1 9)
+written : container_in home several (replicate 34 9) ≡ wrote (Ok 33) (of home several ++ replicate 1 9)
 unfolding bytes when rule_of lay encode
 written = refl
 
-no_room : container_in home several (replicate 32 9) ≡ wrote (put.Refused (refusal 12 33)) (replicate 32 9)
+no_room : container_in home several (replicate 32 9) ≡ wrote (Err (refusal.TooSmall 33)) (replicate 32 9)
 unfolding bytes when rule_of lay encode
 no_room = refl

@@ -1,6 +1,6 @@
 pub mod Cases
 pub mod Fills
-pub mod Answers
+pub mod Says
 pub mod Back
 pub mod Whole
 pub mod Bytes

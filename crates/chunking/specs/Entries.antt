@@ -1,8 +1,8 @@
 -- The entries of stco, co64 and stsc for the chunks of samples (ISO/IEC 14496-12, 8.7.5 and 8.7.4). Assumes nothing.
-use Rattle.std.specs.Prelude.{ℕ, ◌+◌, ◌*◌, ◌/◌, ◌%◌, ◌^◌, ◌≡◌, List, [], ◌∷◌, ◌++◌, Bool, true, false, ◌&&◌, length, eqb, leb}
-use Rattle.numbers.specs.Field.{refusal, when}
+use Rattle.std.specs.Prelude.{ℕ, ◌+◌, ◌*◌, ◌/◌, ◌%◌, ◌^◌, ◌≡◌, List, [], ◌∷◌, ◌++◌, Bool, true, false, ◌&&◌, length, eqb, leb, Err}
+use Rattle.numbers.specs.Field.{when}
+use Rattle.numbers.specs.declared.Refusal.TheVariants as refusal
 use Rattle.put.specs.Put.{Wrote, wrote}
-use Rattle.put.specs.declared.Put.TheVariants.{Refused}
 use Rattle.tables.specs.Tables.{total}
 use Rattle.tables.specs.declared.Row.{Row}
 use Rattle.merging.specs.declared.Open.{Open}
@@ -21,7 +21,7 @@ fits_in rs n = when (all_meet Narrow (column_of rs n 2)) (all_meet Narrow (colum
 
 -- 8 for a timescale of 0 (A59), then the refusals of every builder
 abbrev pub chunked_of : ℕ → List ℕ → ℕ → List ℕ → List ℕ → Wrote
-chunked_of t rs n ns o = when (eqb t 0) (wrote (Refused (refusal 8 0)) o) (built_of rs n (fits_in rs n) ns o)
+chunked_of t rs n ns o = when (eqb t 0) (wrote (Err (refusal.Value 0)) o) (built_of rs n (fits_in rs n) ns o)
 
 -- PLACES
 

@@ -1,4 +1,4 @@
-#![tactic(auto)]
+#![tactic(auto, unfolding(numbers::specs::Field::when, numbers::specs::Field::field))]
 // The chunks of a track, from its samples: a chunk closes when its durations reach one timescale (01, Writer), and before
 // a sample that does not begin where the one before it ends, since tables tell only the place of a chunk's first sample.
 ghost use Rattle.std.specs.Prelude.{◌≡◌};
@@ -43,7 +43,7 @@ fn only(offset: u64, size: u32, duration: u32) -> Chunk
         count: 1,
         lasts: duration as u64,
         last: offset,
-        size: size,
+        size,
     }
 }
 
@@ -91,7 +91,7 @@ pub fn next(chunk: Chunk, timescale: u32, offset: u64, size: u32, duration: u32)
     }
     if !joins(chunk, timescale, offset) {
         return Step::Closed {
-            chunk: chunk,
+            chunk,
             open: only(offset, size, duration),
         };
     }
@@ -100,7 +100,7 @@ pub fn next(chunk: Chunk, timescale: u32, offset: u64, size: u32, duration: u32)
         count: count + 1,
         lasts: lasts + (duration as u64),
         last: offset,
-        size: size,
+        size,
     })
 }
 
@@ -113,7 +113,7 @@ pub fn finish(chunk: Chunk) -> Step
         return Step::Longer(none());
     }
     Step::Closed {
-        chunk: chunk,
+        chunk,
         open: none(),
     }
 }

@@ -1,4 +1,4 @@
-#![tactic(auto)]
+#![tactic(auto, unfolding(numbers::specs::Field::when, numbers::specs::Field::field))]
 // The places of the chunks (ISO/IEC 14496-12, 8.7.5): in 32 bits each where all of them fit (stco), else in 64 (co64).
 ghost use Rattle.std.specs.Prelude.{◌≡◌, ◌^◌, ◌<◌, length};
 ghost use Rattle.put.specs.Put.{wrote};
@@ -7,8 +7,8 @@ ghost use Rattle.chunking.specs.Chunking.{closed_of, chunks_in};
 ghost use Rattle.chunking.specs.Entries.{offset_words, offsets_by, any_wide, offsets_of};
 
 use chunking::Step;
-use columns::{DURATION, OFFSET, SIZE, refuse};
-use put::Put;
+use columns::{DURATION, OFFSET, SIZE};
+use numbers::Refusal;
 
 const NARROW: u64 = 0x1_0000_0000;
 
@@ -103,27 +103,27 @@ pub fn wide(records: &[u64], n: usize, timescale: u32) -> bool
 }
 
 // The entries of stco, or of co64 where a place has no 32 bits, for the first n records, and their length.
-pub fn entries(records: &[u64], n: usize, timescale: u32, out: &mut [u8]) -> Put
+pub fn entries(records: &[u64], n: usize, timescale: u32, out: &mut [u8]) -> Result<usize, Refusal>
     ensures { wrote result out.new ≡ offsets_of timescale records.now n out.old }
 {
     if timescale == 0 {
-        return refuse(8, 0);
+        return Err(Refusal::Value(0));
     }
     if !columns::has(records, n) {
-        return refuse(11, n);
+        return Err(Refusal::NoSample(n));
     }
     if columns::MANY < n {
-        return refuse(13, 0);
+        return Err(Refusal::Unwritable);
     }
     if !chunking::fit(records, n) {
-        return refuse(13, 0);
+        return Err(Refusal::Unwritable);
     }
     let far = wide(records, n, timescale);
     let numbers = walk(records, n, timescale, far);
     let needed = numbers * 4;
     if out.len() < needed {
-        return refuse(12, needed);
+        return Err(Refusal::TooSmall(needed));
     }
     fill(records, n, timescale, far, out);
-    Put::Done(needed)
+    Ok(needed)
 }

@@ -1,4 +1,4 @@
-#![tactic(auto)]
+#![tactic(auto, unfolding(numbers::specs::Field::when, numbers::specs::Field::field))]
 // How many samples the chunks have (ISO/IEC 14496-12, 8.7.4): an entry where that changes, of the first chunk that has so
 // many, their number, and the description, which is 1.
 ghost use Rattle.std.specs.Prelude.{◌≡◌, ◌^◌, ◌<◌, length};
@@ -8,9 +8,9 @@ ghost use Rattle.chunking.specs.Chunking.{closed_of};
 ghost use Rattle.chunking.specs.Entries.{Joined, Grouped, groups_in, stsc_of};
 
 use chunking::{Group, Step};
-use columns::{DURATION, OFFSET, SIZE, refuse};
+use columns::{DURATION, OFFSET, SIZE};
 use merging::Open;
-use put::Put;
+use numbers::Refusal;
 
 const NARROW: u64 = 0x1_0000_0000;
 
@@ -22,11 +22,7 @@ fn put_run(out: &mut [u8], group: Group, step: merging::Step) -> Group
     let first = group.first;
     let k = group.k;
     match step {
-        merging::Step::Longer(run) => Group {
-            run: run,
-            first: first,
-            k: k,
-        },
+        merging::Step::Longer(run) => Group { run, first, k },
         merging::Step::Closed { run, open } => {
             columns::word(out, k, (first % NARROW) as u32);
             columns::word(out, k + 1, run.value);
@@ -92,26 +88,26 @@ fn walk(records: &[u64], n: usize, timescale: u32) -> usize
 }
 
 // The entries of stsc for the first n records, and their length.
-pub fn entries(records: &[u64], n: usize, timescale: u32, out: &mut [u8]) -> Put
+pub fn entries(records: &[u64], n: usize, timescale: u32, out: &mut [u8]) -> Result<usize, Refusal>
     ensures { wrote result out.new ≡ stsc_of timescale records.now n out.old }
 {
     if timescale == 0 {
-        return refuse(8, 0);
+        return Err(Refusal::Value(0));
     }
     if !columns::has(records, n) {
-        return refuse(11, n);
+        return Err(Refusal::NoSample(n));
     }
     if columns::MANY < n {
-        return refuse(13, 0);
+        return Err(Refusal::Unwritable);
     }
     if !chunking::fit(records, n) {
-        return refuse(13, 0);
+        return Err(Refusal::Unwritable);
     }
     let numbers = walk(records, n, timescale);
     let needed = numbers * 4;
     if out.len() < needed {
-        return refuse(12, needed);
+        return Err(Refusal::TooSmall(needed));
     }
     fill(records, n, timescale, out);
-    Put::Done(needed)
+    Ok(needed)
 }

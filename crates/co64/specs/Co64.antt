@@ -1,5 +1,5 @@
 -- The chunk offsets (ISO/IEC 14496-12, 8.7.5) in 64 bits: a count, and as many offsets. Assumes nothing.
-use Rattle.std.specs.Prelude.{ℕ, ◌+◌, ◌*◌, List, [], ◌∷◌, get_or}
+use Rattle.std.specs.Prelude.{ℕ, ◌+◌, ◌*◌, List, [], ◌∷◌, get_or, Result, Ok, Err}
 use Rattle.numbers.specs.Field.{field}
 use Rattle.put.specs.Put.{Wrote}
 use Rattle.layout.specs.Read.{read_of}
@@ -8,10 +8,7 @@ use Rattle.layout.specs.Table.{tabled, write_table}
 use Rattle.layout.specs.declared.Field.{Field}
 use Rattle.layout.specs.declared.Field.TheVariants.{Number, Version, Flags}
 use Rattle.co64.specs.declared.Co64.{Co64}
-use Rattle.co64.specs.declared.Found.{Found}
-use Rattle.co64.specs.declared.Found.TheVariants.{Is, Refused}
-use Rattle.numbers.specs.declared.U64.{U64}
-use Rattle.numbers.specs.declared.U64.TheVariants as number
+use Rattle.numbers.specs.declared.Refusal.{Refusal}
 
 abbrev pub kind : ℕ
 kind = 0x636f3634
@@ -30,12 +27,12 @@ to m = slotted (m.version ∷ m.flags ∷ m.count ∷ [])
 abbrev pub cells : Co64 → ℕ
 cells m = m.count
 
-abbrev pub co64_of : List ℕ → Found
-co64_of part = tabled Is Refused from cells 8 part (read_of kind fields part)
+abbrev pub co64_of : List ℕ → Result (Co64 × ℕ) Refusal
+co64_of part = tabled from cells 8 part (read_of kind fields part)
 
 abbrev pub co64_in : Co64 → List ℕ → List ℕ → Wrote
 co64_in m entries out = write_table kind fields (to m) (cells m * 8) entries out
 
 -- the i-th offset
-abbrev pub entry_of : List ℕ → ℕ → U64
-entry_of entries i = field number.Refused 8 entries (i * 8) number.Is
+abbrev pub entry_of : List ℕ → ℕ → Result ℕ Refusal
+entry_of entries i = field Err 8 entries (i * 8) Ok

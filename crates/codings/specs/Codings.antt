@@ -1,69 +1,64 @@
 -- What the readers of the boxes that say how samples are coded refuse (ISO/IEC 14496-12, 8.5.2; A24): each box's own
 -- refusal, with its position from the part's start on. A type whose content is not read is fine. Assumes nothing.
-use Rattle.std.specs.Prelude.{ℕ, List, [], ◌∷◌, eqb}
+use Rattle.std.specs.Prelude.{ℕ, List, [], ◌∷◌, eqb, Result, Ok, Err}
 use Rattle.numbers.specs.Field.{when}
 use Rattle.places.specs.Kinds as kinds
-use Rattle.rows.specs.declared.Judged.{Judged}
-use Rattle.rows.specs.declared.Judged.TheVariants.{Fine, Wrong}
 use Rattle.visual.specs.Visual.{visual_of}
-use Rattle.visual.specs.declared.Found as visual-found
-use Rattle.visual.specs.declared.Found.TheVariants as visual
 use Rattle.avcc.specs.Avcc.{avcc_of}
-use Rattle.avcc.specs.declared.Found as avcc-found
-use Rattle.avcc.specs.declared.Found.TheVariants as avcc
 use Rattle.mp4a.specs.Mp4a.{mp4a_of}
-use Rattle.mp4a.specs.declared.Found as mp4a-found
-use Rattle.mp4a.specs.declared.Found.TheVariants as mp4a
 use Rattle.esds.specs.Esds.{esds_of}
-use Rattle.esds.specs.declared.Found as esds-found
-use Rattle.esds.specs.declared.Found.TheVariants as esds
 use Rattle.vpcc.specs.Vpcc.{vpcc_of}
-use Rattle.vpcc.specs.declared.Found as vpcc-found
-use Rattle.vpcc.specs.declared.Found.TheVariants as vpcc
 use Rattle.tx3g.specs.Tx3g.{tx3g_of}
-use Rattle.tx3g.specs.declared.Found as tx3g-found
-use Rattle.tx3g.specs.declared.Found.TheVariants as tx3g
+use Rattle.numbers.specs.declared.Refusal.{Refusal}
+use Rattle.tx3g.specs.declared.Tx3g.{Tx3g}
+use Rattle.vpcc.specs.declared.Vpcc.{Vpcc}
+use Rattle.esds.specs.declared.Esds.{Esds}
+use Rattle.esds.specs.declared.Places.{Places}
+use Rattle.mp4a.specs.declared.Mp4a.{Mp4a}
+use Rattle.avcc.specs.declared.Avcc.{Avcc}
+use Rattle.avcc.specs.declared.Places as avcc-is
+use Rattle.visual.specs.declared.Visual.{Visual}
 
 -- A TABLE OF READERS
 
 -- a type, and what its reader refuses of a part
 pub record Reader : Type 0 where
   pub kind : ℕ
-  pub fault : List ℕ → Judged
+  pub fault : List ℕ → Result (Unit {0}) Refusal
 
-abbrev pub reader : ℕ → (List ℕ → Judged) → Reader
+abbrev pub reader : ℕ → (List ℕ → Result (Unit {0}) Refusal) → Reader
 reader kind fault = record { kind = kind; fault = fault }
 
 -- the reader of a type, asked; `other` for a type that is not in the table
-unfoldable pub pick : Judged → ℕ → List ℕ → List Reader → Judged
+unfoldable pub pick : Result (Unit {0}) Refusal → ℕ → List ℕ → List Reader → Result (Unit {0}) Refusal
 pick other kind part [] = other
 pick other kind part (r ∷ rs) = when (eqb kind r.kind) (r.fault part) (pick other kind part rs)
 
 -- THESE READERS
 
-abbrev pub visual_fault : visual-found.Found → Judged
-visual_fault (visual.Is m) = Fine
-visual_fault (visual.Refused q) = Wrong q
+abbrev pub visual_fault : Result Visual Refusal → Result (Unit {0}) Refusal
+visual_fault (Ok m) = (Ok tt)
+visual_fault (Err q) = Err q
 
-abbrev pub avcc_fault : avcc-found.Found → Judged
-avcc_fault (avcc.Is m at) = Fine
-avcc_fault (avcc.Refused q) = Wrong q
+abbrev pub avcc_fault : Result (Avcc × avcc-is.Places) Refusal → Result (Unit {0}) Refusal
+avcc_fault (Ok (m, at)) = (Ok tt)
+avcc_fault (Err q) = Err q
 
-abbrev pub mp4a_fault : mp4a-found.Found → Judged
-mp4a_fault (mp4a.Is m) = Fine
-mp4a_fault (mp4a.Refused q) = Wrong q
+abbrev pub mp4a_fault : Result Mp4a Refusal → Result (Unit {0}) Refusal
+mp4a_fault (Ok m) = (Ok tt)
+mp4a_fault (Err q) = Err q
 
-abbrev pub esds_fault : esds-found.Found → Judged
-esds_fault (esds.Is m at) = Fine
-esds_fault (esds.Refused q) = Wrong q
+abbrev pub esds_fault : Result (Esds × Places) Refusal → Result (Unit {0}) Refusal
+esds_fault (Ok (m, at)) = (Ok tt)
+esds_fault (Err q) = Err q
 
-abbrev pub vpcc_fault : vpcc-found.Found → Judged
-vpcc_fault (vpcc.Is m at) = Fine
-vpcc_fault (vpcc.Refused q) = Wrong q
+abbrev pub vpcc_fault : Result (Vpcc × ℕ) Refusal → Result (Unit {0}) Refusal
+vpcc_fault (Ok (m, at)) = (Ok tt)
+vpcc_fault (Err q) = Err q
 
-abbrev pub tx3g_fault : tx3g-found.Found → Judged
-tx3g_fault (tx3g.Is m) = Fine
-tx3g_fault (tx3g.Refused q) = Wrong q
+abbrev pub tx3g_fault : Result Tx3g Refusal → Result (Unit {0}) Refusal
+tx3g_fault (Ok m) = (Ok tt)
+tx3g_fault (Err q) = Err q
 
 unfoldable pub codings : List Reader
 codings =
@@ -76,5 +71,5 @@ codings =
     reader kinds.tx3g (λ part. tx3g_fault (tx3g_of part)) ∷
     []
 
-abbrev pub coding_of : ℕ → List ℕ → Judged
-coding_of kind part = pick Fine kind part codings
+abbrev pub coding_of : ℕ → List ℕ → Result (Unit {0}) Refusal
+coding_of kind part = pick (Ok tt) kind part codings

@@ -6,7 +6,6 @@ use Rattle.columns.proofs.low.Reads as low
 use Rattle.columns.proofs.right.Reads as right
 use Rattle.columns.proofs.all_right.Reads as All-right
 use Rattle.columns.proofs.word.Reads as word
-use Rattle.columns.proofs.refuse.Reads as refuse
 
 has-fixed : (κs : _) (a : _) (r q : _) (s t : _) → has.Post κs a r s → has.Post κs a q t → r ≡ q
 has-fixed κs a r q s t p o = p ∙ sym o
@@ -25,6 +24,3 @@ all-right-fixed κs a r q s t p o = p ∙ sym o
 
 word-fixed : (κs : _) (a : _) (r q : _) (s t : _) → word.Post κs a r s → word.Post κs a q t → s.0.now ≡ t.0.now
 word-fixed κs a r q s t p o = p ∙ sym o
-
-refuse-fixed : (κs : _) (a : _) (r q : _) (s t : _) → refuse.Post κs a r s → refuse.Post κs a q t → r ≡ q
-refuse-fixed κs a r q s t p o = p ∙ sym o

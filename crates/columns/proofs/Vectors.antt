@@ -1,13 +1,14 @@
 -- Worked examples of the definitions: cells of two records, the rules' limits, numbers in a buffer. Assumes nothing.
+use Rattle.std.specs.Prelude.{Ok, Err}
 use mathlib.Core.Path.{◌≡◌, refl}
 use mathlib.Core.List.{List, [], ◌∷◌}
 use mathlib.Core.Bool.{true, false}
 use Prim.Native.Nat.{ℕ}
 use lib.ListN.{replicate}
 use Rattle.numbers.specs.Number.{bytes}
-use Rattle.numbers.specs.Field.{refusal, when}
+use Rattle.numbers.specs.Field.{when}
+use Rattle.numbers.specs.declared.Refusal.TheVariants as refusal
 use Rattle.put.specs.Put.{wrote}
-use Rattle.put.specs.declared.Put.TheVariants.{Done, Refused}
 use Rattle.columns.specs.declared.Rule.TheVariants.{Zero, Narrow, Signed}
 use Rattle.columns.specs.Columns.{cell_of, column_of, low_at, lows_of, meets}
 use Rattle.columns.specs.Entries.{word_of, placed_of, built_of}
@@ -66,23 +67,23 @@ unfolding word_of bytes when
 case-no-room = refl
 
 -- what lies past the numbers stays
-case-placed : placed_of (1 ∷ 2 ∷ []) (replicate 9 9) ≡ wrote (Done 8) (0 ∷ 0 ∷ 0 ∷ 1 ∷ 0 ∷ 0 ∷ 0 ∷ 2 ∷ 9 ∷ [])
+case-placed : placed_of (1 ∷ 2 ∷ []) (replicate 9 9) ≡ wrote (Ok 8) (0 ∷ 0 ∷ 0 ∷ 1 ∷ 0 ∷ 0 ∷ 0 ∷ 2 ∷ 9 ∷ [])
 unfolding placed_of bytes when
 case-placed = refl
 
-case-small : placed_of (1 ∷ 2 ∷ []) (replicate 7 9) ≡ wrote (Refused (refusal 12 8)) (replicate 7 9)
+case-small : placed_of (1 ∷ 2 ∷ []) (replicate 7 9) ≡ wrote (Err (refusal.TooSmall 8)) (replicate 7 9)
 unfolding placed_of bytes when
 case-small = refl
 
 -- 11 comes before 13, and 13 before 12
-case-11 : built_of two 3 false (1 ∷ []) [] ≡ wrote (Refused (refusal 11 3)) []
+case-11 : built_of two 3 false (1 ∷ []) [] ≡ wrote (Err (refusal.NoSample 3)) []
 unfolding built_of placed_of bytes when
 case-11 = refl
 
-case-13 : built_of two 2 false (1 ∷ []) [] ≡ wrote (Refused (refusal 13 0)) []
+case-13 : built_of two 2 false (1 ∷ []) [] ≡ wrote (Err refusal.Unwritable) []
 unfolding built_of placed_of bytes when
 case-13 = refl
 
-case-12 : built_of two 2 true (1 ∷ []) [] ≡ wrote (Refused (refusal 12 4)) []
+case-12 : built_of two 2 true (1 ∷ []) [] ≡ wrote (Err (refusal.TooSmall 4)) []
 unfolding built_of placed_of bytes when
 case-12 = refl

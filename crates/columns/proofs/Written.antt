@@ -1,4 +1,5 @@
 -- Numbers put one after the other are the numbers of the definition; and a builder's answers. Assumes nothing.
+use Rattle.std.specs.Prelude.{Result, Ok, Err}
 use Prim.Native.Nat.{ℕ, suc, ◌+◌, ◌-◌, ◌*◌, ◌/◌, ◌^◌, ◌≤◌, ◌<◌}
 use mathlib.Core.Path.{◌≡◌, refl, sym, ap, ap₂, subst, ◌∙◌}
 use mathlib.Core.List.{List, [], ◌∷◌, ◌++◌}
@@ -9,15 +10,15 @@ use lib.ListN.{length}
 use lib.Seq.{sets, length-sets}
 use lib.Dec.{leb}
 use Rattle.numbers.specs.Number.{bytes}
-use Rattle.numbers.specs.Field.{refusal, when}
+use Rattle.numbers.specs.Field.{when}
+use Rattle.numbers.specs.declared.Refusal.TheVariants as refusal
 use Rattle.numbers.proofs.Laws.{length-bytes}
 use Rattle.numbers.proofs.Chain.{by-true, by-false, is_le, not-le, is_lt, not-lt}
 use Rattle.put.specs.Put.{Wrote, wrote, put_of}
-use Rattle.put.specs.declared.Put.{Put}
-use Rattle.put.specs.declared.Put.TheVariants.{Done, Refused}
 use Rattle.put.proofs.Stores.{sets-append}
 use Rattle.put.proofs.Placed.{done}
 use Rattle.columns.specs.Entries.{words_of, word_of, placed_of, built_of, Filled, emit_of, Emitted}
+use Rattle.numbers.specs.declared.Refusal.{Refusal}
 
 -- A NUMBER
 
@@ -30,9 +31,9 @@ module _ (o : List ℕ) (k x : ℕ) where
   unfolding word_of
   room h = is_le _ _ _ (k * 4 + 4) (length o) h refl
 
-  pub stored : (r : Put) (q : List ℕ) → k < length o / 4 → x < 2 ^ 32 → wrote r q ≡ put_of 4 x (k * 4) o → q ≡ word_of o k x
+  pub stored : (r : Result ℕ Refusal) (q : List ℕ) → k < length o / 4 → x < 2 ^ 32 → wrote r q ≡ put_of 4 x (k * 4) o → q ≡ word_of o k x
   stored r q h b e =
-      let d : wrote (Done (k * 4 + 4)) (sets o (k * 4) (bytes 4 x)) ≡ put_of 4 x (k * 4) o = done 4 x (k * 4) o (omega arith) b (omega arith) in
+      let d : wrote (Ok (k * 4 + 4)) (sets o (k * 4) (bytes 4 x)) ≡ put_of 4 x (k * 4) o = done 4 x (k * 4) o (omega arith) b (omega arith) in
       let s : q ≡ sets o (k * 4) (bytes 4 x) = cc in
       s ∙ room (omega arith)
 
@@ -95,25 +96,25 @@ ends full left o p k t e =
 -- ANSWERS
 
 module _ (ns o : List ℕ) where
-  pub placed-small : (n : ℕ) → n ≡ length ns * 4 → length o < n → wrote (Refused (refusal 12 n)) o ≡ placed_of ns o
+  pub placed-small : (n : ℕ) → n ≡ length ns * 4 → length o < n → wrote (Err (refusal.TooSmall n)) o ≡ placed_of ns o
   unfolding placed_of
-  placed-small n e h = not-le _ _ _ (length ns * 4) (length o) (omega arith) (ap (λ (m : ℕ). wrote (Refused (refusal 12 m)) o) e)
+  placed-small n e h = not-le _ _ _ (length ns * 4) (length o) (omega arith) (ap (λ (m : ℕ). wrote (Err (refusal.TooSmall m)) o) e)
 
-  pub placed-done : (r n : ℕ) (p : List ℕ) → n ≡ length ns * 4 → n ≤ length o → Filled ns o p r → wrote (Done n) p ≡ placed_of ns o
+  pub placed-done : (r n : ℕ) (p : List ℕ) → n ≡ length ns * 4 → n ≤ length o → Filled ns o p r → wrote (Ok n) p ≡ placed_of ns o
   unfolding placed_of
   placed-done r n p e h f =
-      is_le _ _ _ (length ns * 4) (length o) (omega arith) (ap₂ (λ (m : ℕ) (q : List ℕ). wrote (Done m) q) e (f.held (omega arith)))
+      is_le _ _ _ (length ns * 4) (length o) (omega arith) (ap₂ (λ (m : ℕ) (q : List ℕ). wrote (Ok m) q) e (f.held (omega arith)))
 
 module _ (rs : List ℕ) (n : ℕ) (fit : Bool) (ns o : List ℕ) where
-  pub built-none : length rs < n * 7 → wrote (Refused (refusal 11 n)) o ≡ built_of rs n fit ns o
+  pub built-none : length rs < n * 7 → wrote (Err (refusal.NoSample n)) o ≡ built_of rs n fit ns o
   unfolding built_of
   built-none h = not-le _ _ _ (n * 7) (length rs) h refl
 
-  pub built-many : n * 7 ≤ length rs → 2 ^ 32 ≤ n → wrote (Refused (refusal 13 0)) o ≡ built_of rs n fit ns o
+  pub built-many : n * 7 ≤ length rs → 2 ^ 32 ≤ n → wrote (Err refusal.Unwritable) o ≡ built_of rs n fit ns o
   unfolding built_of
   built-many h m = is_le _ _ _ (n * 7) (length rs) h (not-lt _ _ _ n (2 ^ 32) m refl)
 
-  pub built-unfit : n * 7 ≤ length rs → n < 2 ^ 32 → fit ≡ false → wrote (Refused (refusal 13 0)) o ≡ built_of rs n fit ns o
+  pub built-unfit : n * 7 ≤ length rs → n < 2 ^ 32 → fit ≡ false → wrote (Err refusal.Unwritable) o ≡ built_of rs n fit ns o
   unfolding built_of
   built-unfit h m e = is_le _ _ _ (n * 7) (length rs) h (is_lt _ _ _ n (2 ^ 32) m (by-false _ _ _ fit e refl))
 

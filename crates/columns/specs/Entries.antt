@@ -1,11 +1,11 @@
 -- The entries of a table in a lent buffer: numbers of four bytes, one behind the other; and what a builder of entries
 -- answers. Assumes nothing.
-use Rattle.std.specs.Prelude.{ℕ, ◌+◌, ◌*◌, ◌^◌, ◌≤◌, ◌≡◌, List, [], ◌∷◌, ◌++◌, Bool, ◌&&◌, length, leb, ltb}
+use Rattle.std.specs.Prelude.{ℕ, ◌+◌, ◌*◌, ◌^◌, ◌≤◌, ◌≡◌, List, [], ◌∷◌, ◌++◌, Bool, ◌&&◌, length, leb, ltb, Ok, Err}
 use Rattle.std.proofs.lemmas.List.Edits.{sets}
 use Rattle.numbers.specs.Number.{bytes}
-use Rattle.numbers.specs.Field.{refusal, when}
+use Rattle.numbers.specs.Field.{when}
+use Rattle.numbers.specs.declared.Refusal.TheVariants as refusal
 use Rattle.put.specs.Put.{Wrote, wrote}
-use Rattle.put.specs.declared.Put.TheVariants.{Done, Refused}
 use Rattle.samples.specs.Records.{record-length}
 
 abbrev pub words_of : List ℕ → List ℕ
@@ -19,15 +19,15 @@ word_of o k x = when (leb (k * 4 + 4) (length o)) (sets o (k * 4) (bytes 4 x)) o
 -- the numbers at the buffer's start, what lies past them as it was; 12 with the length needed where they have no room (A61)
 unfoldable pub placed_of : List ℕ → List ℕ → Wrote
 placed_of ns o =
-    when (leb (length ns * 4) (length o)) (wrote (Done (length ns * 4)) (sets o 0 (words_of ns))) (wrote (Refused (refusal 12 (length ns * 4))) o)
+    when (leb (length ns * 4) (length o)) (wrote (Ok (length ns * 4)) (sets o 0 (words_of ns))) (wrote (Err (refusal.TooSmall (length ns * 4))) o)
 
 -- the entries of n samples: 11 with n where the buffer has no n records; 13 where there are more samples than 32 bits
 -- count, or a number does not fit its field (A60)
 unfoldable pub built_of : List ℕ → ℕ → Bool → List ℕ → List ℕ → Wrote
 built_of rs n fit ns o =
     when (leb (n * record-length) (length rs))
-    (when (ltb n (2 ^ 32)) (when fit (placed_of ns o) (wrote (Refused (refusal 13 0)) o)) (wrote (Refused (refusal 13 0)) o))
-    (wrote (Refused (refusal 11 n)) o)
+    (when (ltb n (2 ^ 32)) (when fit (placed_of ns o) (wrote (Err refusal.Unwritable) o)) (wrote (Err refusal.Unwritable) o))
+    (wrote (Err (refusal.NoSample n)) o)
 
 -- INSIDE
 

@@ -1,14 +1,10 @@
-#![tactic(auto)]
+#![tactic(auto, unfolding(numbers::specs::Field::when, numbers::specs::Field::field))]
 // What the tables of a track are built from and into: the samples as records of seven numbers, column by column, and the
 // entries of a table as numbers of four bytes in a lent buffer, one behind the other.
 ghost use Rattle.std.specs.Prelude.{◌≡◌, ◌*◌, length, leb};
-ghost use Rattle.numbers.specs.Field.{refusal};
-ghost use Rattle.put.specs.declared.Put.TheVariants.{Refused};
 ghost use Rattle.columns.specs.Columns.{meets, cell_of, low_at, column_of, all_meet};
 ghost use Rattle.columns.specs.Entries.{word_of};
 
-use numbers::Refusal;
-use put::Put;
 use samples::RECORD;
 
 // The numbers of a record that tables are built from, by their place in it.
@@ -105,15 +101,5 @@ pub fn word(out: &mut [u8], k: usize, x: u32)
     if out.len() / 4 <= k {
         return;
     }
-    put::u32_at(out, k * 4, x);
-}
-
-// A builder's refusal.
-pub fn refuse(number: u32, detail: usize) -> Put
-    ensures { result ≡ Refused (refusal number detail) }
-{
-    Put::Refused(Refusal {
-        number: number,
-        detail: detail,
-    })
+    let _ = put::write::<u32>(out, k * 4, x);
 }

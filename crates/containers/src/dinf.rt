@@ -2,29 +2,19 @@
 ghost use Rattle.std.specs.Prelude.{◌≡◌};
 ghost use Rattle.containers.specs.Dinf.{dinf_of};
 
-use children::Place;
 use numbers::Refusal;
 use places::kinds;
-use rows::Judged;
 
 #[derive(Clone, Copy)]
 pub struct Dinf {
-    pub dref: Place,
+    pub dref: Option<usize>,
 }
 
-#[derive(Clone, Copy)]
-pub enum Found {
-    Is(Dinf),
-    Refused(Refusal),
-}
-
-pub fn read(part: &[u8]) -> Found
+pub fn read(part: &[u8]) -> Result<Dinf, Refusal>
     ensures { result ≡ dinf_of part.now }
 {
-    match children::whole(part, kinds::DINF) {
-        Judged::Wrong(q) => Found::Refused(q),
-        Judged::Fine => Found::Is(Dinf {
-            dref: children::place_of(part, kinds::DINF, kinds::DREF),
-        }),
-    }
+    children::whole(part, kinds::DINF)?;
+    Ok(Dinf {
+        dref: children::place_of(part, kinds::DINF, kinds::DREF),
+    })
 }

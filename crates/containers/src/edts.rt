@@ -2,29 +2,19 @@
 ghost use Rattle.std.specs.Prelude.{◌≡◌};
 ghost use Rattle.containers.specs.Edts.{edts_of};
 
-use children::Place;
 use numbers::Refusal;
 use places::kinds;
-use rows::Judged;
 
 #[derive(Clone, Copy)]
 pub struct Edts {
-    pub elst: Place,
+    pub elst: Option<usize>,
 }
 
-#[derive(Clone, Copy)]
-pub enum Found {
-    Is(Edts),
-    Refused(Refusal),
-}
-
-pub fn read(part: &[u8]) -> Found
+pub fn read(part: &[u8]) -> Result<Edts, Refusal>
     ensures { result ≡ edts_of part.now }
 {
-    match children::whole(part, kinds::EDTS) {
-        Judged::Wrong(q) => Found::Refused(q),
-        Judged::Fine => Found::Is(Edts {
-            elst: children::place_of(part, kinds::EDTS, kinds::ELST),
-        }),
-    }
+    children::whole(part, kinds::EDTS)?;
+    Ok(Edts {
+        elst: children::place_of(part, kinds::EDTS, kinds::ELST),
+    })
 }

@@ -2,29 +2,19 @@
 ghost use Rattle.std.specs.Prelude.{◌≡◌};
 ghost use Rattle.containers.specs.Mvex.{mvex_of};
 
-use children::Place;
 use numbers::Refusal;
 use places::kinds;
-use rows::Judged;
 
 #[derive(Clone, Copy)]
 pub struct Mvex {
-    pub trex: Place,
+    pub trex: Option<usize>,
 }
 
-#[derive(Clone, Copy)]
-pub enum Found {
-    Is(Mvex),
-    Refused(Refusal),
-}
-
-pub fn read(part: &[u8]) -> Found
+pub fn read(part: &[u8]) -> Result<Mvex, Refusal>
     ensures { result ≡ mvex_of part.now }
 {
-    match children::whole(part, kinds::MVEX) {
-        Judged::Wrong(q) => Found::Refused(q),
-        Judged::Fine => Found::Is(Mvex {
-            trex: children::place_of(part, kinds::MVEX, kinds::TREX),
-        }),
-    }
+    children::whole(part, kinds::MVEX)?;
+    Ok(Mvex {
+        trex: children::place_of(part, kinds::MVEX, kinds::TREX),
+    })
 }

@@ -1,4 +1,5 @@
 -- Numbers held against other boxes, box after box. Assumes nothing.
+use Rattle.std.specs.Prelude.{Result, Ok, None}
 use mathlib.Core.Path.{◌≡◌, refl, sym, ap, ◌∙◌}
 use mathlib.Core.List.{List, [], ◌∷◌}
 use mathlib.Core.Bool.{Bool, true, false, ◌&&◌}
@@ -9,17 +10,15 @@ use borrow.Author.Tests.{leb-true, ltb-true, ltb-false}
 use Rattle.numbers.specs.Field.{when}
 use Rattle.numbers.proofs.Chain.{by-true, by-false, is_lt, not-lt}
 use Rattle.places.specs.Kinds.{tfhd}
-use Rattle.rows.specs.declared.Judged.TheVariants.{Fine}
-use Rattle.rows.specs.declared.Judged.{Judged}
 use Rattle.codings.specs.Codings.{Reader, pick, codings, coding_of}
 use Rattle.codings.proofs.Picks.{further, unread}
 use Rattle.readers.specs.Readers.{readers, fault_of}
 use Rattle.keys.proofs.Picks as key
 use Rattle.keys.specs.Key.{keys, key_of}
-use Rattle.keys.specs.declared.Key.TheVariants.{Absent}
 use Rattle.kin.specs.Before.{sum}
 use Rattle.kin.specs.Kin.{Boxes, at, stands}
 use Rattle.contents.specs.Held.{key_at, number_in, track_from}
+use Rattle.numbers.specs.declared.Refusal.{Refusal}
 
 -- TWO TESTS
 
@@ -39,19 +38,19 @@ typed (r ∷ rs) = when (leb r.kind 4294967295) (typed rs) false
 both : (t u : Bool) → when t u false ≡ true → (t ≡ true) × (u ≡ true)
 unfolding when
 both true u e = (refl, e)
-both false u e = let z : ◌≡◌ {A = ℕ} 0 1 = cc in absurd (omega arith)
+both false u e = let z : ◌≡◌ {A = ℕ} 0 1 = cc e in absurd (omega arith)
 
-pick-none : (other : Judged) (kind : ℕ) (part : List ℕ) (rs : List Reader) → Fine ≡ other → 4294967295 < kind → typed rs ≡ true → Fine ≡ pick other kind part rs
-pick-none other kind part [] o h e = unread other kind part Fine o
+pick-none : (other : Result (Unit {0}) Refusal) (kind : ℕ) (part : List ℕ) (rs : List Reader) → (Ok tt) ≡ other → 4294967295 < kind → typed rs ≡ true → (Ok tt) ≡ pick other kind part rs
+pick-none other kind part [] o h e = unread other kind part (Ok tt) o
 pick-none other kind part (r ∷ rs) o h e =
     let b = both (leb r.kind 4294967295) (typed rs) e in
-    further other kind part r rs Fine (λ q. omega (arith, leb-true r.kind 4294967295 b.0)) (pick-none other kind part rs o h b.1)
+    further other kind part r rs (Ok tt) (λ q. omega (arith, leb-true r.kind 4294967295 b.0)) (pick-none other kind part rs o h b.1)
 
-pub no_reader : (kind : ℕ) (part : List ℕ) → 4294967295 < kind → Fine ≡ fault_of kind part
+pub no_reader : (kind : ℕ) (part : List ℕ) → 4294967295 < kind → (Ok tt) ≡ fault_of kind part
 unfolding readers codings when
-no_reader kind part h = pick-none (coding_of kind part) kind part readers (pick-none Fine kind part codings refl h refl) h refl
+no_reader kind part h = pick-none (coding_of kind part) kind part readers (pick-none (Ok tt) kind part codings refl h refl) h refl
 
-pub no_key : (kind : ℕ) (part : List ℕ) → 4294967295 < kind → Absent ≡ key_of kind part
+pub no_key : (kind : ℕ) (part : List ℕ) → 4294967295 < kind → None ≡ key_of kind part
 unfolding keys
 no_key kind part h =
     key.further kind part _ _ _ (λ e. omega arith)

@@ -1,14 +1,15 @@
--- The numbers in boxes that are held against other boxes: a track's number must be new in a tkhd (8), known in a tfhd
--- (8) and new in a trex (6); a track has at most so many samples in its stsz and in its runs (4); the media data of a
--- url lie in this file (8). Document 01, Needed and Limits; A8, A10, A17 to A19, A25, A54. Assumes nothing.
-use Rattle.std.specs.Prelude.{ℕ, zero, suc, ◌+◌, ◌-◌, ◌%◌, min, List, Bool, false, ◌&&◌, eqb, ltb}
+-- The numbers in boxes that are held against other boxes: a track's number must be new in a tkhd, known in a tfhd and
+-- new in a trex; a track has at most so many samples in its stsz and in its runs; the media data of a url lie in this
+-- file. Document 01, Needed and Limits; A8, A10, A17 to A19, A25, A54. Assumes nothing.
+use Rattle.std.specs.Prelude.{ℕ, zero, suc, ◌+◌, ◌-◌, ◌%◌, min, List, Bool, false, ◌&&◌, not, eqb, ltb, Option, Some, None}
+use Rattle.std.specs.Bool.{then_some}
 use Rattle.numbers.specs.Field.{when}
+use Rattle.numbers.specs.declared.Refusal.{Refusal}
+use Rattle.numbers.specs.declared.Refusal.TheVariants as refusal
 use Rattle.parts.specs.Parts as parts
 use Rattle.places.specs.Kinds.{trex, tkhd, url, stsz, tfhd, trun}
 use Rattle.places.specs.Visit.{box_limit}
 use Rattle.keys.specs.Key.{key_of}
-use Rattle.keys.specs.declared.Key.{Key}
-use Rattle.keys.specs.declared.Key.TheVariants.{Absent, Is}
 use Rattle.kin.specs.Before.{some, sum}
 use Rattle.kin.specs.Kin.{Boxes, at, stands}
 
@@ -21,16 +22,16 @@ abbrev pub part_of : List ℕ → Boxes → ℕ → List ℕ
 part_of s t j = parts.part_of (at t.starts j) (at t.sizes j) s
 
 -- the number of box j, and its place in the box
-abbrev pub key_at : List ℕ → Boxes → ℕ → Key
+abbrev pub key_at : List ℕ → Boxes → ℕ → Option (ℕ × ℕ)
 key_at s t j = key_of (at t.kinds j) (part_of s t j)
 
-abbrev pub number_in : Key → ℕ
-number_in Absent = 0
-number_in (Is x p) = x
+abbrev pub number_in : Option (ℕ × ℕ) → ℕ
+number_in None = 0
+number_in (Some (x, p)) = x
 
-abbrev pub is : Key → ℕ → Bool
-is Absent n = false
-is (Is x p) n = eqb x n
+abbrev pub is : Option (ℕ × ℕ) → ℕ → Bool
+is None n = false
+is (Some (x, p)) n = eqb x n
 
 -- a box of this type with this number stands before box i
 abbrev pub used : List ℕ → Boxes → ℕ → ℕ → ℕ → Bool
@@ -57,12 +58,13 @@ run_of s t n track j = when (stands t trun j) (when (eqb (track_of s t n j) trac
 abbrev pub total : List ℕ → Boxes → ℕ → ℕ → ℕ → ℕ
 total s t n i count = when (eqb (track_of s t n i) 0) count (sum (run_of s t n (track_of s t n i)) i + count)
 
--- the refusal of box i for its number x, or 0
-abbrev pub refusal_of : List ℕ → Boxes → ℕ → ℕ → ℕ → ℕ
-refusal_of s t n i x =
-    when (eqb (at t.kinds i) tkhd) (when (used s t tkhd x i) 8 0)
-    (when (eqb (at t.kinds i) tfhd) (when (used s t tkhd x i) 0 8)
-    (when (eqb (at t.kinds i) trex) (when (used s t trex x i) 6 0)
-    (when (eqb (at t.kinds i) stsz) (when (ltb sample_limit x) 4 0)
-    (when (eqb (at t.kinds i) trun) (when (ltb sample_limit (total s t n i x)) 4 0)
-    (when (eqb (at t.kinds i) url) (when (eqb (x % 2) 1) 0 8) 0)))))
+-- the refusal of box i for its number x, which is told where it stands, at p in the box; a second trex is told at its
+-- first byte (A17)
+abbrev pub refusal_of : List ℕ → Boxes → ℕ → ℕ → ℕ → ℕ → Option Refusal
+refusal_of s t n i x p =
+    when (eqb (at t.kinds i) tkhd) (then_some (used s t tkhd x i) (refusal.Value p))
+    (when (eqb (at t.kinds i) tfhd) (then_some (not (used s t tkhd x i)) (refusal.Value p))
+    (when (eqb (at t.kinds i) trex) (then_some (used s t trex x i) (refusal.Twice 0))
+    (when (eqb (at t.kinds i) stsz) (then_some (ltb sample_limit x) (refusal.Limit p))
+    (when (eqb (at t.kinds i) trun) (then_some (ltb sample_limit (total s t n i x)) (refusal.Limit p))
+    (when (eqb (at t.kinds i) url) (then_some (not (eqb (x % 2) 1)) (refusal.Value p)) None)))))

@@ -1,13 +1,12 @@
 // The numbers in boxes that are held against other boxes.
 ghost use Rattle.std.specs.Prelude.{◌≡◌, ◌&&◌, ◌+◌, ◌<◌, min, eqb, ltb};
-ghost use Rattle.numbers.specs.Field.{when};
 ghost use Rattle.places.specs.Kinds.{tfhd};
 ghost use Rattle.places.specs.Visit.{box_limit};
 ghost use Rattle.kin.specs.Before.{sum};
 ghost use Rattle.kin.specs.Kin.{boxes, at, stands};
 ghost use Rattle.contents.specs.Held.{sample_limit, key_at, number_in, is, used, track_of, run_of, total, refusal_of};
 
-use keys::Key;
+use numbers::Refusal;
 use places::kinds;
 
 // How many samples a track may have.
@@ -22,32 +21,32 @@ pub(crate) fn key_at(
     kinds: &[usize; 4096],
     parents: &[usize; 4096],
     placed: &[usize; 4096],
-) -> Key
+) -> Option<(u64, usize)>
     requires { j < 4096 }
     ensures { result ≡ key_at s.now (boxes starts.now sizes.now kinds.now parents.now placed.now) j }
 {
     let kind = kinds[j];
     if 0xffff_ffff < kind {
-        return Key::Absent;
+        return None;
     }
     keys::find(kind as u32, parts::part(s, starts[j], sizes[j]))
 }
 
-fn number_in(key: Key) -> u64
+fn number_in(key: Option<(u64, usize)>) -> u64
     ensures { result ≡ number_in key }
 {
     match key {
-        Key::Absent => 0,
-        Key::Is(x, _) => x,
+        None => 0,
+        Some((x, _)) => x,
     }
 }
 
-fn is(key: Key, n: u64) -> bool
+fn is(key: Option<(u64, usize)>, n: u64) -> bool
     ensures { result ≡ is key n }
 {
     match key {
-        Key::Absent => false,
-        Key::Is(x, _) => x == n,
+        None => false,
+        Some((x, _)) => x == n,
     }
 }
 
@@ -259,91 +258,75 @@ fn too_long(
     pass(s, n, track, count, i, starts, sizes, kinds, parents, placed)
 }
 
-fn number_if(t: bool, a: u32, b: u32) -> u32
-    ensures { result ≡ when t a b }
-{
-    if t { a } else { b }
-}
-
-// The refusal of box i for its number x, or 0.
+// The refusal of box i for its number x, which stands at p in it.
 pub(crate) fn refusal_of(
     s: &[u8],
     n: usize,
     i: usize,
     x: u64,
+    p: usize,
     starts: &[usize; 4096],
     sizes: &[usize; 4096],
     kinds: &[usize; 4096],
     parents: &[usize; 4096],
     placed: &[usize; 4096],
-) -> u32
+) -> Option<Refusal>
     requires { i < 4096 }
-    ensures { result ≡ refusal_of s.now (boxes starts.now sizes.now kinds.now parents.now placed.now) n i x }
+    ensures { result ≡ refusal_of s.now (boxes starts.now sizes.now kinds.now parents.now placed.now) n i x p }
 {
     let kind = kinds[i];
     if kind == kinds::TKHD as usize {
-        return number_if(
-            used(
-                s,
-                kinds::TKHD as usize,
-                x,
-                i,
-                starts,
-                sizes,
-                kinds,
-                parents,
-                placed,
-            ),
-            8,
-            0,
+        let known = used(
+            s,
+            kinds::TKHD as usize,
+            x,
+            i,
+            starts,
+            sizes,
+            kinds,
+            parents,
+            placed,
         );
+        return known.then_some(Refusal::Value(p));
     }
     if kind == kinds::TFHD as usize {
-        return number_if(
-            used(
-                s,
-                kinds::TKHD as usize,
-                x,
-                i,
-                starts,
-                sizes,
-                kinds,
-                parents,
-                placed,
-            ),
-            0,
-            8,
+        let known = used(
+            s,
+            kinds::TKHD as usize,
+            x,
+            i,
+            starts,
+            sizes,
+            kinds,
+            parents,
+            placed,
         );
+        return (!known).then_some(Refusal::Value(p));
     }
     if kind == kinds::TREX as usize {
-        return number_if(
-            used(
-                s,
-                kinds::TREX as usize,
-                x,
-                i,
-                starts,
-                sizes,
-                kinds,
-                parents,
-                placed,
-            ),
-            6,
-            0,
+        let second = used(
+            s,
+            kinds::TREX as usize,
+            x,
+            i,
+            starts,
+            sizes,
+            kinds,
+            parents,
+            placed,
         );
+        // It is told at its first byte.
+        return second.then_some(Refusal::Twice(0));
     }
     if kind == kinds::STSZ as usize {
-        return number_if(SAMPLES < x, 4, 0);
+        return (SAMPLES < x).then_some(Refusal::Limit(p));
     }
     if kind == kinds::TRUN as usize {
-        return number_if(
-            too_long(s, n, x, i, starts, sizes, kinds, parents, placed),
-            4,
-            0,
-        );
+        let long = too_long(s, n, x, i, starts, sizes, kinds, parents, placed);
+        return long.then_some(Refusal::Limit(p));
     }
     if kind == kinds::URL as usize {
-        return number_if(x % 2 == 1, 0, 8);
+        return (x % 2 != 1).then_some(Refusal::Value(p));
     }
-    0
+    None
 }

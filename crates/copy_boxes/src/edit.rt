@@ -4,7 +4,7 @@ use crate::say;
 const ELST: u32 = 0x656c7374;
 
 fn elst_entry(rt: &impl Print, entries: &[u8], version: u8, i: u32) {
-    if let elst::Listed::Is(x) = elst::entry(entries, version, i) {
+    if let Ok(x) = elst::entry(entries, version, i) {
         say::open(rt);
         say::numbers(rt, &[x.segment_duration]);
         say::signed(rt, x.media_time);
@@ -30,8 +30,8 @@ fn bytes_of(version: u8, n: u32) -> usize {
 
 fn elst(rt: &impl Print, part: &[u8], out: &mut [u8]) {
     match elst::read(part) {
-        elst::Found::Refused(q) => say::refused(rt, q),
-        elst::Found::Is(b, from) => {
+        Err(q) => say::refused(rt, q),
+        Ok((b, from)) => {
             say::numbers(rt, &[b.version as u64, b.flags as u64, b.count as u64]);
             let entries = say::entries(part, from, bytes_of(b.version, b.count));
             elst_entries(rt, entries, b.version, b.count);

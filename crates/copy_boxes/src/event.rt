@@ -13,8 +13,8 @@ fn behind(end: usize) -> usize {
 
 fn emsg(rt: &impl Print, part: &[u8], out: &mut [u8]) {
     match emsg::read(part) {
-        emsg::Found::Refused(q) => say::refused(rt, q),
-        emsg::Found::Is(b, p) => {
+        Err(q) => say::refused(rt, q),
+        Ok((b, p)) => {
             say::numbers(
                 rt,
                 &[

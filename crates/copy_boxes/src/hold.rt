@@ -1,7 +1,6 @@
 // Boxes whose whole content is boxes: where the first of each type that is read begins, 0 where there is none. The
 // children's bytes are written as they are, and stand in a pack as boxes of their own.
 use crate::say;
-use children::Place;
 use layout::Field;
 
 const EDTS: u32 = 0x65647473;
@@ -14,17 +13,17 @@ const MOOF: u32 = 0x6d6f6f66;
 
 const TRAF: u32 = 0x74726166;
 
-fn place(rt: &impl Print, p: Place) {
+fn place(rt: &impl Print, p: Option<usize>) {
     match p {
-        Place::Absent => say::numbers(rt, &[0]),
-        Place::At(n) => say::numbers(rt, &[n as u64]),
+        None => say::numbers(rt, &[0]),
+        Some(n) => say::numbers(rt, &[n as u64]),
     }
 }
 
 fn edts(rt: &impl Print, part: &[u8], out: &mut [u8]) {
     match containers::edts::read(part) {
-        containers::edts::Found::Refused(q) => say::refused(rt, q),
-        containers::edts::Found::Is(b) => {
+        Err(q) => say::refused(rt, q),
+        Ok(b) => {
             let elst = b.elst;
             place(rt, elst);
             let content = wrap::content(part, EDTS);
@@ -37,8 +36,8 @@ fn edts(rt: &impl Print, part: &[u8], out: &mut [u8]) {
 
 fn dinf(rt: &impl Print, part: &[u8], out: &mut [u8]) {
     match containers::dinf::read(part) {
-        containers::dinf::Found::Refused(q) => say::refused(rt, q),
-        containers::dinf::Found::Is(b) => {
+        Err(q) => say::refused(rt, q),
+        Ok(b) => {
             let dref = b.dref;
             place(rt, dref);
             let content = wrap::content(part, DINF);
@@ -51,8 +50,8 @@ fn dinf(rt: &impl Print, part: &[u8], out: &mut [u8]) {
 
 fn mvex(rt: &impl Print, part: &[u8], out: &mut [u8]) {
     match containers::mvex::read(part) {
-        containers::mvex::Found::Refused(q) => say::refused(rt, q),
-        containers::mvex::Found::Is(b) => {
+        Err(q) => say::refused(rt, q),
+        Ok(b) => {
             let trex = b.trex;
             place(rt, trex);
             let content = wrap::content(part, MVEX);
@@ -65,8 +64,8 @@ fn mvex(rt: &impl Print, part: &[u8], out: &mut [u8]) {
 
 fn moof(rt: &impl Print, part: &[u8], out: &mut [u8]) {
     match moof::read(part) {
-        moof::Found::Refused(q) => say::refused(rt, q),
-        moof::Found::Is(b) => {
+        Err(q) => say::refused(rt, q),
+        Ok(b) => {
             let mfhd = b.mfhd;
             place(rt, mfhd);
             let traf = b.traf;
@@ -81,8 +80,8 @@ fn moof(rt: &impl Print, part: &[u8], out: &mut [u8]) {
 
 fn traf(rt: &impl Print, part: &[u8], out: &mut [u8]) {
     match traf::read(part) {
-        traf::Found::Refused(q) => say::refused(rt, q),
-        traf::Found::Is(b) => {
+        Err(q) => say::refused(rt, q),
+        Ok(b) => {
             let tfhd = b.tfhd;
             place(rt, tfhd);
             let tfdt = b.tfdt;

@@ -42,8 +42,8 @@ fn tkhd_matrix(rt: &impl Print, b: tkhd::Tkhd) {
 
 fn tkhd(rt: &impl Print, part: &[u8], out: &mut [u8]) {
     match tkhd::read(part) {
-        tkhd::Found::Refused(q) => say::refused(rt, q),
-        tkhd::Found::Is(b) => {
+        Err(q) => say::refused(rt, q),
+        Ok(b) => {
             tkhd_times(rt, b);
             tkhd_place(rt, b);
             tkhd_matrix(rt, b);
@@ -57,8 +57,8 @@ fn tkhd(rt: &impl Print, part: &[u8], out: &mut [u8]) {
 
 fn mdhd(rt: &impl Print, part: &[u8], out: &mut [u8]) {
     match mdhd::read(part) {
-        mdhd::Found::Refused(q) => say::refused(rt, q),
-        mdhd::Found::Is(b) => {
+        Err(q) => say::refused(rt, q),
+        Ok(b) => {
             say::numbers(
                 rt,
                 &[
@@ -80,8 +80,8 @@ fn mdhd(rt: &impl Print, part: &[u8], out: &mut [u8]) {
 
 fn trex(rt: &impl Print, part: &[u8], out: &mut [u8]) {
     match trex::read(part) {
-        trex::Found::Refused(q) => say::refused(rt, q),
-        trex::Found::Is(b) => {
+        Err(q) => say::refused(rt, q),
+        Ok(b) => {
             say::numbers(
                 rt,
                 &[
@@ -103,8 +103,8 @@ fn trex(rt: &impl Print, part: &[u8], out: &mut [u8]) {
 
 fn mfhd(rt: &impl Print, part: &[u8], out: &mut [u8]) {
     match mfhd::read(part) {
-        mfhd::Found::Refused(q) => say::refused(rt, q),
-        mfhd::Found::Is(b) => {
+        Err(q) => say::refused(rt, q),
+        Ok(b) => {
             say::numbers(
                 rt,
                 &[b.version as u64, b.flags as u64, b.sequence_number as u64],
@@ -118,8 +118,8 @@ fn mfhd(rt: &impl Print, part: &[u8], out: &mut [u8]) {
 
 fn tfhd(rt: &impl Print, part: &[u8], out: &mut [u8]) {
     match tfhd::read(part) {
-        tfhd::Found::Refused(q) => say::refused(rt, q),
-        tfhd::Found::Is(b) => {
+        Err(q) => say::refused(rt, q),
+        Ok(b) => {
             say::numbers(
                 rt,
                 &[
@@ -142,8 +142,8 @@ fn tfhd(rt: &impl Print, part: &[u8], out: &mut [u8]) {
 
 fn tfdt(rt: &impl Print, part: &[u8], out: &mut [u8]) {
     match tfdt::read(part) {
-        tfdt::Found::Refused(q) => say::refused(rt, q),
-        tfdt::Found::Is(b) => {
+        Err(q) => say::refused(rt, q),
+        Ok(b) => {
             say::numbers(
                 rt,
                 &[b.version as u64, b.flags as u64, b.base_media_decode_time],

@@ -2,19 +2,19 @@
 ghost use Rattle.std.specs.Prelude.{◌≤◌};
 
 use crate::say;
-use trun::{DataOffset, Listed, Trun};
+use trun::Trun;
 
 const TRUN: u32 = 0x7472756e;
 
 fn trun_offset(rt: &impl Print, b: Trun) {
     match trun::offset_of(b) {
-        DataOffset::Absent => say::signed(rt, 0),
-        DataOffset::Is(n) => say::signed(rt, n),
+        None => say::signed(rt, 0),
+        Some(n) => say::signed(rt, n),
     }
 }
 
 fn trun_entry(rt: &impl Print, b: Trun, entries: &[u8], i: u32) {
-    if let Listed::Is(x) = trun::entry(b, entries, i) {
+    if let Ok(x) = trun::entry(b, entries, i) {
         say::open(rt);
         say::three(rt, x.duration, x.size, x.flags);
         say::signed(rt, x.composition_offset);
@@ -50,8 +50,8 @@ fn bytes_of(flags: u32, n: u32) -> usize {
 
 fn trun(rt: &impl Print, part: &[u8], out: &mut [u8]) {
     match trun::read(part) {
-        trun::Found::Refused(q) => say::refused(rt, q),
-        trun::Found::Is(b, from) => {
+        Err(q) => say::refused(rt, q),
+        Ok((b, from)) => {
             say::numbers(
                 rt,
                 &[b.version as u64, b.flags as u64, b.sample_count as u64],

@@ -1,7 +1,6 @@
 // The words of a line: each begins with a space.
 use layout::Field;
-use numbers::{Refusal, U32};
-use put::Put;
+use numbers::Refusal;
 
 pub(crate) fn text(rt: &impl Print, s: &[u8]) {
     let _ = rt.write_all(s);
@@ -75,8 +74,8 @@ pub(crate) fn bytes(rt: &impl Print, s: &[u8]) {
 
 pub(crate) fn refused(rt: &impl Print, q: Refusal) {
     text(rt, b" refused");
-    number(rt, q.number as u64);
-    number(rt, q.detail as u64);
+    number(rt, u64::from(q.code()));
+    number(rt, q.detail() as u64);
 }
 
 fn begins_with(s: &[u8], t: &[u8]) -> bool {
@@ -103,9 +102,9 @@ fn compared(rt: &impl Print, part: &[u8], written: &[u8]) {
 
 // The bytes of a box alone, without those behind it; none where its size is not in its first four bytes.
 fn alone(part: &[u8]) -> &[u8] {
-    match numbers::u32_at(part, 0) {
-        U32::Is(size) => entries(part, 0, size as usize),
-        U32::Refused(_) => &part[..0],
+    match numbers::read::<u32>(part, 0) {
+        Ok(size) => entries(part, 0, size as usize),
+        Err(_) => &part[..0],
     }
 }
 
@@ -149,14 +148,14 @@ pub(crate) fn canonical(rt: &impl Print, part: &[u8], kind: u32, row: [Field; 24
 }
 
 // What the writer made of a box that was read from `part`.
-pub(crate) fn written(rt: &impl Print, put: Put, part: &[u8], out: &[u8]) {
+pub(crate) fn written(rt: &impl Print, put: Result<usize, Refusal>, part: &[u8], out: &[u8]) {
     match put {
-        Put::Refused(q) => {
+        Err(q) => {
             text(rt, b" unwritten");
-            number(rt, q.number as u64);
-            number(rt, q.detail as u64);
+            number(rt, u64::from(q.code()));
+            number(rt, q.detail() as u64);
         }
-        Put::Done(n) => compared(rt, part, entries(out, 0, n)),
+        Ok(n) => compared(rt, part, entries(out, 0, n)),
     }
 }
 

@@ -1,7 +1,6 @@
 // Boxes with a table: the entries are told one by one, as the reader of each gives them, and written as the bytes that
 // they have in the box.
 use crate::say;
-use numbers::{U32, U64};
 
 const STTS: u32 = 0x73747473;
 
@@ -18,7 +17,7 @@ const CO64: u32 = 0x636f3634;
 const STSZ: u32 = 0x7374737a;
 
 fn stts_entry(rt: &impl Print, entries: &[u8], i: u32) {
-    if let stts::Listed::Is(x) = stts::entry(entries, i) {
+    if let Ok(x) = stts::entry(entries, i) {
         say::open(rt);
         say::numbers(rt, &[x.sample_count as u64, x.sample_delta as u64]);
         say::close(rt);
@@ -33,8 +32,8 @@ fn stts_entries(rt: &impl Print, entries: &[u8], n: u32) {
 
 fn stts(rt: &impl Print, part: &[u8], out: &mut [u8]) {
     match stts::read(part) {
-        stts::Found::Refused(q) => say::refused(rt, q),
-        stts::Found::Is(b, from) => {
+        Err(q) => say::refused(rt, q),
+        Ok((b, from)) => {
             say::numbers(rt, &[b.version as u64, b.flags as u64, b.count as u64]);
             let entries = say::entries(part, from, (b.count as usize) * 8);
             stts_entries(rt, entries, b.count);
@@ -46,7 +45,7 @@ fn stts(rt: &impl Print, part: &[u8], out: &mut [u8]) {
 }
 
 fn ctts_entry(rt: &impl Print, entries: &[u8], i: u32) {
-    if let ctts::Listed::Is(x) = ctts::entry(entries, i) {
+    if let Ok(x) = ctts::entry(entries, i) {
         say::open(rt);
         say::numbers(rt, &[x.sample_count as u64]);
         say::signed32(rt, x.sample_offset);
@@ -62,8 +61,8 @@ fn ctts_entries(rt: &impl Print, entries: &[u8], n: u32) {
 
 fn ctts(rt: &impl Print, part: &[u8], out: &mut [u8]) {
     match ctts::read(part) {
-        ctts::Found::Refused(q) => say::refused(rt, q),
-        ctts::Found::Is(b, from) => {
+        Err(q) => say::refused(rt, q),
+        Ok((b, from)) => {
             say::numbers(rt, &[b.version as u64, b.flags as u64, b.count as u64]);
             let entries = say::entries(part, from, (b.count as usize) * 8);
             ctts_entries(rt, entries, b.count);
@@ -75,7 +74,7 @@ fn ctts(rt: &impl Print, part: &[u8], out: &mut [u8]) {
 }
 
 fn stsc_entry(rt: &impl Print, entries: &[u8], i: u32) {
-    if let stsc::Listed::Is(x) = stsc::entry(entries, i) {
+    if let Ok(x) = stsc::entry(entries, i) {
         say::open(rt);
         say::numbers(
             rt,
@@ -97,8 +96,8 @@ fn stsc_entries(rt: &impl Print, entries: &[u8], n: u32) {
 
 fn stsc(rt: &impl Print, part: &[u8], out: &mut [u8]) {
     match stsc::read(part) {
-        stsc::Found::Refused(q) => say::refused(rt, q),
-        stsc::Found::Is(b, from) => {
+        Err(q) => say::refused(rt, q),
+        Ok((b, from)) => {
             say::numbers(rt, &[b.version as u64, b.flags as u64, b.count as u64]);
             let entries = say::entries(part, from, (b.count as usize) * 12);
             stsc_entries(rt, entries, b.count);
@@ -110,7 +109,7 @@ fn stsc(rt: &impl Print, part: &[u8], out: &mut [u8]) {
 }
 
 fn stss_entry(rt: &impl Print, entries: &[u8], i: u32) {
-    if let U32::Is(x) = stss::entry(entries, i) {
+    if let Ok(x) = stss::entry(entries, i) {
         say::open(rt);
         say::numbers(rt, &[x as u64]);
         say::close(rt);
@@ -125,8 +124,8 @@ fn stss_entries(rt: &impl Print, entries: &[u8], n: u32) {
 
 fn stss(rt: &impl Print, part: &[u8], out: &mut [u8]) {
     match stss::read(part) {
-        stss::Found::Refused(q) => say::refused(rt, q),
-        stss::Found::Is(b, from) => {
+        Err(q) => say::refused(rt, q),
+        Ok((b, from)) => {
             say::numbers(rt, &[b.version as u64, b.flags as u64, b.count as u64]);
             let entries = say::entries(part, from, (b.count as usize) * 4);
             stss_entries(rt, entries, b.count);
@@ -138,7 +137,7 @@ fn stss(rt: &impl Print, part: &[u8], out: &mut [u8]) {
 }
 
 fn stco_entry(rt: &impl Print, entries: &[u8], i: u32) {
-    if let U32::Is(x) = stco::entry(entries, i) {
+    if let Ok(x) = stco::entry(entries, i) {
         say::open(rt);
         say::numbers(rt, &[x as u64]);
         say::close(rt);
@@ -153,8 +152,8 @@ fn stco_entries(rt: &impl Print, entries: &[u8], n: u32) {
 
 fn stco(rt: &impl Print, part: &[u8], out: &mut [u8]) {
     match stco::read(part) {
-        stco::Found::Refused(q) => say::refused(rt, q),
-        stco::Found::Is(b, from) => {
+        Err(q) => say::refused(rt, q),
+        Ok((b, from)) => {
             say::numbers(rt, &[b.version as u64, b.flags as u64, b.count as u64]);
             let entries = say::entries(part, from, (b.count as usize) * 4);
             stco_entries(rt, entries, b.count);
@@ -166,7 +165,7 @@ fn stco(rt: &impl Print, part: &[u8], out: &mut [u8]) {
 }
 
 fn co64_entry(rt: &impl Print, entries: &[u8], i: u32) {
-    if let U64::Is(x) = co64::entry(entries, i) {
+    if let Ok(x) = co64::entry(entries, i) {
         say::open(rt);
         say::numbers(rt, &[x]);
         say::close(rt);
@@ -181,8 +180,8 @@ fn co64_entries(rt: &impl Print, entries: &[u8], n: u32) {
 
 fn co64(rt: &impl Print, part: &[u8], out: &mut [u8]) {
     match co64::read(part) {
-        co64::Found::Refused(q) => say::refused(rt, q),
-        co64::Found::Is(b, from) => {
+        Err(q) => say::refused(rt, q),
+        Ok((b, from)) => {
             say::numbers(rt, &[b.version as u64, b.flags as u64, b.count as u64]);
             let entries = say::entries(part, from, (b.count as usize) * 8);
             co64_entries(rt, entries, b.count);
@@ -199,7 +198,7 @@ fn listed(common: u32, count: u32) -> u32 {
 }
 
 fn stsz_entry(rt: &impl Print, entries: &[u8], i: u32) {
-    if let U32::Is(x) = stsz::entry(entries, i) {
+    if let Ok(x) = stsz::entry(entries, i) {
         say::open(rt);
         say::numbers(rt, &[x as u64]);
         say::close(rt);
@@ -214,8 +213,8 @@ fn stsz_entries(rt: &impl Print, entries: &[u8], n: u32) {
 
 fn stsz(rt: &impl Print, part: &[u8], out: &mut [u8]) {
     match stsz::read(part) {
-        stsz::Found::Refused(q) => say::refused(rt, q),
-        stsz::Found::Is(b, from) => {
+        Err(q) => say::refused(rt, q),
+        Ok((b, from)) => {
             say::numbers(
                 rt,
                 &[

@@ -11,8 +11,8 @@ const STSD: u32 = 0x73747364;
 
 fn hdlr(rt: &impl Print, part: &[u8], out: &mut [u8]) {
     match hdlr::read(part) {
-        hdlr::Found::Refused(q) => say::refused(rt, q),
-        hdlr::Found::Is(b) => {
+        Err(q) => say::refused(rt, q),
+        Ok(b) => {
             say::numbers(
                 rt,
                 &[b.version as u64, b.flags as u64, b.handler_type as u64],
@@ -28,8 +28,8 @@ fn hdlr(rt: &impl Print, part: &[u8], out: &mut [u8]) {
 
 fn url(rt: &impl Print, part: &[u8], out: &mut [u8]) {
     match url_box::read(part) {
-        url_box::Found::Refused(q) => say::refused(rt, q),
-        url_box::Found::Is(b) => {
+        Err(q) => say::refused(rt, q),
+        Ok(b) => {
             say::numbers(rt, &[b.version as u64, b.flags as u64]);
             let location = url_box::location(part);
             say::bytes(rt, location);
@@ -48,8 +48,8 @@ fn url(rt: &impl Print, part: &[u8], out: &mut [u8]) {
 
 fn dref(rt: &impl Print, part: &[u8], out: &mut [u8]) {
     match dref::read(part) {
-        dref::Found::Refused(q) => say::refused(rt, q),
-        dref::Found::Is(b) => {
+        Err(q) => say::refused(rt, q),
+        Ok(b) => {
             say::numbers(rt, &[b.version as u64, b.flags as u64, b.count as u64]);
             let entries = dref::entries(part);
             say::bytes(rt, entries);
@@ -62,8 +62,8 @@ fn dref(rt: &impl Print, part: &[u8], out: &mut [u8]) {
 
 fn stsd(rt: &impl Print, part: &[u8], out: &mut [u8]) {
     match stsd::read(part) {
-        stsd::Found::Refused(q) => say::refused(rt, q),
-        stsd::Found::Is(b) => {
+        Err(q) => say::refused(rt, q),
+        Ok(b) => {
             say::numbers(rt, &[b.version as u64, b.flags as u64, b.count as u64]);
             let entries = stsd::entries(part);
             say::bytes(rt, entries);

@@ -1,7 +1,7 @@
 // Questions of codes: what a code stands for.
 use crate::say;
 use media::{entries, handlers};
-use numbers::{U8, U32};
+use numbers::Refusal;
 
 // 'kind', 'medi', 'prof', 'aot ', 'freq', 'inde' and 'chan'.
 const KIND: u32 = 0x6b696e64;
@@ -18,24 +18,24 @@ const INDEX: u32 = 0x696e6465;
 
 const CHANNELS: u32 = 0x6368616e;
 
-fn say_byte(rt: &impl Print, answer: U8) {
+fn say_byte(rt: &impl Print, answer: Result<u8, Refusal>) {
     match answer {
-        U8::Is(n) => say::one(rt, n as u32),
-        U8::Refused(q) => say::refused(rt, q),
+        Ok(n) => say::one(rt, n as u32),
+        Err(q) => say::refused(rt, q),
     }
 }
 
-fn say_word(rt: &impl Print, answer: U32) {
+fn say_word(rt: &impl Print, answer: Result<u32, Refusal>) {
     match answer {
-        U32::Is(n) => say::one(rt, n),
-        U32::Refused(q) => say::refused(rt, q),
+        Ok(n) => say::one(rt, n),
+        Err(q) => say::refused(rt, q),
     }
 }
 
 fn track(rt: &impl Print, letters: u32) {
     match handlers::kind_of(letters) {
-        handlers::Told::Refused(q) => say::refused(rt, q),
-        handlers::Told::Is(kind) => {
+        Err(q) => say::refused(rt, q),
+        Ok(kind) => {
             match kind {
                 handlers::Kind::Video => say::text(rt, b" video"),
                 handlers::Kind::Audio => say::text(rt, b" audio"),
@@ -47,8 +47,8 @@ fn track(rt: &impl Print, letters: u32) {
 
 fn coded(rt: &impl Print, letters: u32) {
     match entries::media_of(letters) {
-        entries::Told::Refused(q) => say::refused(rt, q),
-        entries::Told::Is(media) => {
+        Err(q) => say::refused(rt, q),
+        Ok(media) => {
             match media {
                 entries::Media::H264 => say::text(rt, b" h264"),
                 entries::Media::H265 => say::text(rt, b" h265"),
@@ -62,8 +62,8 @@ fn coded(rt: &impl Print, letters: u32) {
 
 fn profile(rt: &impl Print, indication: u8, compatibility: u8) {
     match profiles::profile_of(indication, compatibility) {
-        profiles::Told::Refused(q) => say::refused(rt, q),
-        profiles::Told::Is(profile) => {
+        Err(q) => say::refused(rt, q),
+        Ok(profile) => {
             match profile {
                 profiles::Profile::ConstrainedBaseline => say::text(rt, b" constrained"),
                 profiles::Profile::Baseline => say::text(rt, b" baseline"),
@@ -109,7 +109,7 @@ fn tell_byte(rt: &impl Print, kind: u32, n: u8) -> bool {
 }
 
 fn tell_profile(rt: &impl Print, part: &[u8], indication: u8) -> bool {
-    let U8::Is(compatibility) = numbers::u8_at(part, 9) else {
+    let Ok(compatibility) = numbers::read::<u8>(part, 9) else {
         return false;
     };
     profile(rt, indication, compatibility);
@@ -118,7 +118,7 @@ fn tell_profile(rt: &impl Print, part: &[u8], indication: u8) -> bool {
 
 // What is asked stands behind the letters; whether it is all there, and a question.
 pub(crate) fn tell(rt: &impl Print, kind: u32, part: &[u8]) -> bool {
-    let U8::Is(first) = numbers::u8_at(part, 8) else {
+    let Ok(first) = numbers::read::<u8>(part, 8) else {
         return false;
     };
     if kind == PROFILE {
@@ -127,7 +127,7 @@ pub(crate) fn tell(rt: &impl Print, kind: u32, part: &[u8]) -> bool {
     if tell_byte(rt, kind, first) {
         return true;
     }
-    let U32::Is(n) = numbers::u32_at(part, 8) else {
+    let Ok(n) = numbers::read::<u32>(part, 8) else {
         return false;
     };
     tell_word(rt, kind, n)

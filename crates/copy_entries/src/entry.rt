@@ -8,8 +8,8 @@ const VP09: u32 = 0x76703039;
 
 fn mp4a(rt: &impl Print, part: &[u8], out: &mut [u8]) {
     match mp4a::read(part) {
-        mp4a::Found::Refused(q) => say::refused(rt, q),
-        mp4a::Found::Is(b) => {
+        Err(q) => say::refused(rt, q),
+        Ok(b) => {
             say::numbers(
                 rt,
                 &[
@@ -62,8 +62,8 @@ fn style(rt: &impl Print, start: u16, end: u16, font: u16, face: u8, size: u8) {
 
 fn tx3g(rt: &impl Print, part: &[u8], out: &mut [u8]) {
     match tx3g::read(part) {
-        tx3g::Found::Refused(q) => say::refused(rt, q),
-        tx3g::Found::Is(b) => {
+        Err(q) => say::refused(rt, q),
+        Ok(b) => {
             justified(
                 rt,
                 b.data_reference_index,
@@ -106,8 +106,8 @@ fn flag(rt: &impl Print, b: bool) {
 
 fn vpcc(rt: &impl Print, part: &[u8], out: &mut [u8]) {
     match vpcc::read(part) {
-        vpcc::Found::Refused(q) => say::refused(rt, q),
-        vpcc::Found::Is(b, place) => {
+        Err(q) => say::refused(rt, q),
+        Ok((b, place)) => {
             say::numbers(
                 rt,
                 &[
@@ -165,8 +165,8 @@ fn picture(
 
 fn visual(rt: &impl Print, part: &[u8], kind: u32, out: &mut [u8]) {
     match visual::read(part, kind) {
-        visual::Found::Refused(q) => say::refused(rt, q),
-        visual::Found::Is(b) => {
+        Err(q) => say::refused(rt, q),
+        Ok(b) => {
             picture(
                 rt,
                 b.data_reference_index,
@@ -205,8 +205,8 @@ fn picture_sets(rt: &impl Print, part: &[u8], count: u8) {
 
 fn avcc(rt: &impl Print, part: &[u8], out: &mut [u8]) {
     match avcc::read(part) {
-        avcc::Found::Refused(q) => say::refused(rt, q),
-        avcc::Found::Is(b, _) => {
+        Err(q) => say::refused(rt, q),
+        Ok((b, _)) => {
             bytes4(rt, b.profile, b.compatibility, b.level, b.length_size);
             say::one(rt, b.sps as u32);
             sequence_sets(rt, part, b.sps);

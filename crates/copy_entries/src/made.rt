@@ -1,7 +1,5 @@
 // Questions of new sample entries: each is made by `fresh` and written with the box that it holds.
 use crate::say;
-use numbers::{U8, U16, U32};
-use put::Put;
 
 // 'nmp4', 'navc', 'nvp9' and 'ntx3'.
 const SOUND: u32 = 0x6e6d7034;
@@ -37,8 +35,8 @@ fn channels(configuration: u8) -> u16 {
 fn streamed(rt: &impl Print, entry: mp4a::Mp4a, stream: esds::Esds, info: &[u8], out: &mut [u8]) {
     let mut child = [0u8; 4096];
     match esds_write::write(stream, &info[..0], info, &[2], &mut child) {
-        Put::Refused(q) => say::refused(rt, q),
-        Put::Done(n) => {
+        Err(q) => say::refused(rt, q),
+        Ok(n) => {
             let put = mp4a::write(entry, say::bytes_at(&child, 0, n), out);
             say::made(rt, put, out);
         }
@@ -48,8 +46,8 @@ fn streamed(rt: &impl Print, entry: mp4a::Mp4a, stream: esds::Esds, info: &[u8],
 fn heard(rt: &impl Print, entry: mp4a::Mp4a, bitrate: u32, config: asc::Config, out: &mut [u8]) {
     let mut info = [0u8; 4096];
     match asc::write(config, &mut info) {
-        Put::Refused(q) => say::refused(rt, q),
-        Put::Done(n) => streamed(
+        Err(q) => say::refused(rt, q),
+        Ok(n) => streamed(
             rt,
             entry,
             fresh::esds(bitrate),
@@ -61,8 +59,8 @@ fn heard(rt: &impl Print, entry: mp4a::Mp4a, bitrate: u32, config: asc::Config, 
 
 fn sampled(rt: &impl Print, frequency: u32, bitrate: u32, config: asc::Config, out: &mut [u8]) {
     match fresh::mp4a(channels(config.channels), frequency) {
-        mp4a::Found::Refused(q) => say::refused(rt, q),
-        mp4a::Found::Is(entry) => heard(rt, entry, bitrate, config, out),
+        Err(q) => say::refused(rt, q),
+        Ok(entry) => heard(rt, entry, bitrate, config, out),
     }
 }
 
@@ -75,11 +73,11 @@ fn configured(
     out: &mut [u8],
 ) {
     match audio::frequencies::frequency(index) {
-        U32::Refused(q) => say::refused(rt, q),
-        U32::Is(frequency) => {
+        Err(q) => say::refused(rt, q),
+        Ok(frequency) => {
             match audio::channels::configuration(configuration) {
-                U8::Refused(q) => say::refused(rt, q),
-                U8::Is(c) => {
+                Err(q) => say::refused(rt, q),
+                Ok(c) => {
                     let config = asc::Config {
                         object_type: object,
                         frequency_index: index,
@@ -95,21 +93,21 @@ fn configured(
 
 // A bitrate in four bytes, an object type, an index of a frequency and a channel configuration.
 fn sound(rt: &impl Print, part: &[u8], out: &mut [u8]) -> bool {
-    let U32::Is(bitrate) = numbers::u32_at(part, 8) else {
+    let Ok(bitrate) = numbers::read::<u32>(part, 8) else {
         return false;
     };
-    let U8::Is(code) = numbers::u8_at(part, 12) else {
+    let Ok(code) = numbers::read::<u8>(part, 12) else {
         return false;
     };
-    let U8::Is(index) = numbers::u8_at(part, 13) else {
+    let Ok(index) = numbers::read::<u8>(part, 13) else {
         return false;
     };
-    let U8::Is(configuration) = numbers::u8_at(part, 14) else {
+    let Ok(configuration) = numbers::read::<u8>(part, 14) else {
         return false;
     };
     match audio::objects::object_type(code) {
-        U8::Refused(q) => say::refused(rt, q),
-        U8::Is(object) => configured(rt, bitrate, object, index, configuration, out),
+        Err(q) => say::refused(rt, q),
+        Ok(object) => configured(rt, bitrate, object, index, configuration, out),
     }
     true
 }
@@ -129,8 +127,8 @@ fn coded(
 ) {
     let mut child = [0u8; 4096];
     match avcc::write(avcc, sps, pps, &sps[..0], &mut child) {
-        Put::Refused(q) => say::refused(rt, q),
-        Put::Done(n) => shown(rt, entry, AVC1, say::bytes_at(&child, 0, n), out),
+        Err(q) => say::refused(rt, q),
+        Ok(n) => shown(rt, entry, AVC1, say::bytes_at(&child, 0, n), out),
     }
 }
 
@@ -146,11 +144,11 @@ fn listed(
     let mut sequences = [0u8; 4096];
     let mut pictures = [0u8; 4096];
     match sets::put_set(&mut sequences, 0, sps) {
-        Put::Refused(q) => say::refused(rt, q),
-        Put::Done(n) => {
+        Err(q) => say::refused(rt, q),
+        Ok(n) => {
             match sets::put_set(&mut pictures, 0, pps) {
-                Put::Refused(q) => say::refused(rt, q),
-                Put::Done(m) => coded(
+                Err(q) => say::refused(rt, q),
+                Ok(m) => coded(
                     rt,
                     entry,
                     avcc,
@@ -165,20 +163,20 @@ fn listed(
 
 fn profiled(rt: &impl Print, entry: visual::Visual, sps: &[u8], pps: &[u8], out: &mut [u8]) {
     match fresh::avcc(sps) {
-        fresh::Made::Refused(q) => say::refused(rt, q),
-        fresh::Made::Is(avcc) => listed(rt, entry, avcc, sps, pps, out),
+        Err(q) => say::refused(rt, q),
+        Ok(avcc) => listed(rt, entry, avcc, sps, pps, out),
     }
 }
 
 // A width, a height and the length of the sequence parameter set in two bytes each, that set, and a picture parameter set.
 fn avc(rt: &impl Print, part: &[u8], out: &mut [u8]) -> bool {
-    let U16::Is(width) = numbers::u16_at(part, 8) else {
+    let Ok(width) = numbers::read::<u16>(part, 8) else {
         return false;
     };
-    let U16::Is(height) = numbers::u16_at(part, 10) else {
+    let Ok(height) = numbers::read::<u16>(part, 10) else {
         return false;
     };
-    let U16::Is(length) = numbers::u16_at(part, 12) else {
+    let Ok(length) = numbers::read::<u16>(part, 12) else {
         return false;
     };
     let n = length as usize;
@@ -195,17 +193,17 @@ fn avc(rt: &impl Print, part: &[u8], out: &mut [u8]) -> bool {
 
 // A width and a height in two bytes each.
 fn vp9(rt: &impl Print, part: &[u8], out: &mut [u8]) -> bool {
-    let U16::Is(width) = numbers::u16_at(part, 8) else {
+    let Ok(width) = numbers::read::<u16>(part, 8) else {
         return false;
     };
-    let U16::Is(height) = numbers::u16_at(part, 10) else {
+    let Ok(height) = numbers::read::<u16>(part, 10) else {
         return false;
     };
     let entry = fresh::visual(width, height);
     let mut child = [0u8; 4096];
     match vpcc_write::write(fresh::vpcc(), &part[..0], &mut child) {
-        Put::Refused(q) => say::refused(rt, q),
-        Put::Done(n) => shown(rt, entry, VP09, say::bytes_at(&child, 0, n), out),
+        Err(q) => say::refused(rt, q),
+        Ok(n) => shown(rt, entry, VP09, say::bytes_at(&child, 0, n), out),
     }
     true
 }

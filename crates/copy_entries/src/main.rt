@@ -14,7 +14,6 @@ mod question;
 mod say;
 mod stream;
 
-use numbers::U32;
 use packs::Item;
 use std::env::{Env, FillError};
 use std::fs::File;
@@ -54,9 +53,9 @@ fn tell_known(rt: &impl Print, kind: u32, part: &[u8], out: &mut [u8]) -> bool {
 
 // A part that ends before its type does has none.
 fn tell_one(rt: &impl Print, part: &[u8], out: &mut [u8]) {
-    match numbers::u32_at(part, 4) {
-        U32::Refused(q) => say::text(rt, b"- unknown\n"),
-        U32::Is(kind) => {
+    match numbers::read::<u32>(part, 4) {
+        Err(_) => say::text(rt, b"- unknown\n"),
+        Ok(kind) => {
             print_kind(rt, kind);
             if !tell_known(rt, kind, part, out) {
                 say::text(rt, b" unknown");

@@ -1,7 +1,6 @@
 // Questions of descriptors, and of the audio configurations in them.
 use crate::say;
-use descriptor::Head;
-use numbers::{U8, U32};
+use numbers::U24;
 
 // 'desc', 'dput', 'asc ' and 'aput'.
 const HEAD: u32 = 0x64657363;
@@ -22,17 +21,17 @@ fn asked(part: &[u8]) -> &[u8] {
 
 fn head(rt: &impl Print, s: &[u8]) {
     match descriptor::head_at(s, 0) {
-        Head::Refused(q) => say::refused(rt, q),
-        Head::Is { tag, from, to } => say::numbers(rt, &[tag as u64, from as u64, to as u64]),
+        Err(q) => say::refused(rt, q),
+        Ok(h) => say::numbers(rt, &[h.tag as u64, h.from as u64, h.to as u64]),
     }
 }
 
 // A tag and a length in four bytes.
 fn put_head(rt: &impl Print, part: &[u8], out: &mut [u8]) {
-    let U8::Is(tag) = numbers::u8_at(part, 8) else {
+    let Ok(tag) = numbers::read::<u8>(part, 8) else {
         return;
     };
-    let U32::Is(length) = numbers::u32_at(part, 9) else {
+    let Ok(length) = numbers::read::<u32>(part, 9) else {
         return;
     };
     let put = descriptor_write::put_head(out, 0, tag, length);
@@ -41,8 +40,8 @@ fn put_head(rt: &impl Print, part: &[u8], out: &mut [u8]) {
 
 fn audio(rt: &impl Print, s: &[u8]) {
     match asc::read(s) {
-        asc::Found::Refused(q) => say::refused(rt, q),
-        asc::Found::Is(c) => {
+        Err(q) => say::refused(rt, q),
+        Ok(c) => {
             say::two(rt, c.object_type as u32, c.frequency_index as u32);
             say::two(rt, c.frequency, c.channels as u32);
         }
@@ -51,23 +50,23 @@ fn audio(rt: &impl Print, s: &[u8]) {
 
 // An object type, an index, a frequency in three bytes, and channels.
 fn put_audio(rt: &impl Print, part: &[u8], out: &mut [u8]) {
-    let U8::Is(object_type) = numbers::u8_at(part, 8) else {
+    let Ok(object_type) = numbers::read::<u8>(part, 8) else {
         return;
     };
-    let U8::Is(frequency_index) = numbers::u8_at(part, 9) else {
+    let Ok(frequency_index) = numbers::read::<u8>(part, 9) else {
         return;
     };
-    let U32::Is(frequency) = numbers::u24_at(part, 10) else {
+    let Ok(U24(frequency)) = numbers::read(part, 10) else {
         return;
     };
-    let U8::Is(channels) = numbers::u8_at(part, 13) else {
+    let Ok(channels) = numbers::read::<u8>(part, 13) else {
         return;
     };
     let config = asc::Config {
-        object_type: object_type,
-        frequency_index: frequency_index,
-        frequency: frequency,
-        channels: channels,
+        object_type,
+        frequency_index,
+        frequency,
+        channels,
     };
     let put = asc::write(config, out);
     say::made(rt, put, out);

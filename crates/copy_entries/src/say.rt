@@ -1,6 +1,5 @@
 // The words of a line: each begins with a space.
 use numbers::Refusal;
-use put::Put;
 
 pub(crate) fn text(rt: &impl Print, s: &[u8]) {
     let _ = rt.write_all(s);
@@ -62,8 +61,8 @@ pub(crate) fn eights(rt: &impl Print, a: u64, b: u64, c: u64, d: u64) {
 
 pub(crate) fn refused(rt: &impl Print, q: Refusal) {
     text(rt, b" refused");
-    number(rt, q.number as u64);
-    number(rt, q.detail as u64);
+    number(rt, u64::from(q.code()));
+    number(rt, q.detail() as u64);
 }
 
 fn begins_with(s: &[u8], t: &[u8]) -> bool {
@@ -89,14 +88,14 @@ fn compared(rt: &impl Print, part: &[u8], written: &[u8]) {
 }
 
 // What the writer made of a box that was read from `part`.
-pub(crate) fn written(rt: &impl Print, put: Put, part: &[u8], out: &[u8]) {
+pub(crate) fn written(rt: &impl Print, put: Result<usize, Refusal>, part: &[u8], out: &[u8]) {
     match put {
-        Put::Refused(q) => {
+        Err(q) => {
             text(rt, b" unwritten");
-            number(rt, q.number as u64);
-            number(rt, q.detail as u64);
+            number(rt, u64::from(q.code()));
+            number(rt, q.detail() as u64);
         }
-        Put::Done(n) => compared(rt, part, bytes_at(out, 0, n)),
+        Ok(n) => compared(rt, part, bytes_at(out, 0, n)),
     }
 }
 
@@ -113,9 +112,9 @@ pub(crate) fn bytes_at(part: &[u8], from: usize, n: usize) -> &[u8] {
 }
 
 // What was made alone, of no box that was read.
-pub(crate) fn made(rt: &impl Print, put: Put, out: &[u8]) {
+pub(crate) fn made(rt: &impl Print, put: Result<usize, Refusal>, out: &[u8]) {
     match put {
-        Put::Refused(q) => refused(rt, q),
-        Put::Done(n) => bytes(rt, bytes_at(out, 0, n)),
+        Err(q) => refused(rt, q),
+        Ok(n) => bytes(rt, bytes_at(out, 0, n)),
     }
 }

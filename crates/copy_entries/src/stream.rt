@@ -2,7 +2,6 @@
 // the content of the SLConfig, where they are there.
 use crate::say;
 use decoderconfig::Config;
-use esds::Decoder;
 use esfields::Stream;
 
 fn fields(rt: &impl Print, stream: Stream, url: &[u8]) {
@@ -45,14 +44,14 @@ pub(crate) fn tell(rt: &impl Print, kind: u32, part: &[u8], out: &mut [u8]) -> b
         return false;
     }
     match esds::read(part) {
-        esds::Found::Refused(q) => say::refused(rt, q),
-        esds::Found::Is(b, places) => {
+        Err(q) => say::refused(rt, q),
+        Ok((b, places)) => {
             say::one(rt, b.flags);
             fields(rt, b.stream, esds_parts::url(part));
             let configured = b.decoder;
             match configured {
-                Decoder::Absent => say::text(rt, b""),
-                Decoder::Is(config) => decoder(rt, config, esds_parts::info(part)),
+                None => say::text(rt, b""),
+                Some(config) => decoder(rt, config, esds_parts::info(part)),
             }
             let sl = esds_parts::sl(part);
             if b.has_sl {

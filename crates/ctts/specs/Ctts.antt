@@ -1,6 +1,6 @@
 -- The composition offsets (ISO/IEC 14496-12, 8.6.1.3): a count, and as many pairs of a count and an offset. The offset
 -- is signed in versions 0 and 1 alike, as the Rust has it and against the standard (document 01). Assumes nothing.
-use Rattle.std.specs.Prelude.{ℕ, ◌+◌, ◌*◌, List, [], ◌∷◌, get_or}
+use Rattle.std.specs.Prelude.{ℕ, ◌+◌, ◌*◌, List, [], ◌∷◌, get_or, Result, Ok, Err}
 use Rattle.numbers.specs.Field.{field}
 use Rattle.put.specs.Put.{Wrote}
 use Rattle.layout.specs.Read.{read_of}
@@ -9,11 +9,9 @@ use Rattle.layout.specs.Table.{tabled, write_table}
 use Rattle.layout.specs.declared.Field.{Field}
 use Rattle.layout.specs.declared.Field.TheVariants.{Number, Version, Flags}
 use Rattle.ctts.specs.declared.Ctts.{Ctts}
-use Rattle.ctts.specs.declared.Found.{Found}
-use Rattle.ctts.specs.declared.Found.TheVariants.{Is, Refused}
 use Rattle.signed.specs.Signed.{signed}
-use Rattle.ctts.specs.declared.Listed.{Listed}
-use Rattle.ctts.specs.declared.Listed.TheVariants as entry
+use Rattle.ctts.specs.declared.Run.{Run}
+use Rattle.numbers.specs.declared.Refusal.{Refusal}
 
 abbrev pub kind : ℕ
 kind = 0x63747473
@@ -32,14 +30,14 @@ to m = slotted (m.version ∷ m.flags ∷ m.count ∷ [])
 abbrev pub cells : Ctts → ℕ
 cells m = m.count * 2
 
-abbrev pub ctts_of : List ℕ → Found
-ctts_of part = tabled Is Refused from cells 4 part (read_of kind fields part)
+abbrev pub ctts_of : List ℕ → Result (Ctts × ℕ) Refusal
+ctts_of part = tabled from cells 4 part (read_of kind fields part)
 
 abbrev pub ctts_in : Ctts → List ℕ → List ℕ → Wrote
 ctts_in m entries out = write_table kind fields (to m) (cells m * 4) entries out
 
 -- the i-th pair
-abbrev pub entry_of : List ℕ → ℕ → Listed
+abbrev pub entry_of : List ℕ → ℕ → Result Run Refusal
 entry_of entries i =
-    field entry.Refused 4 entries (i * 8)
-    (λ c. field entry.Refused 4 entries (i * 8 + 4) (λ o. entry.Is (record { sample_count = c; sample_offset = signed 4 o })))
+    field Err 4 entries (i * 8)
+    (λ c. field Err 4 entries (i * 8 + 4) (λ o. Ok (record { sample_count = c; sample_offset = signed 4 o })))

@@ -1,4 +1,4 @@
-#![tactic(auto)]
+#![tactic(auto, unfolding(numbers::specs::Field::when, numbers::specs::Field::field))]
 // The composition offsets (ISO/IEC 14496-12, 8.6.1.3): a count, and as many pairs of a count and an offset. The offset
 // is signed in versions 0 and 1 alike, as the Rust has it and against the standard (document 01).
 ghost use Rattle.std.specs.Prelude.{◌≡◌};
@@ -6,23 +6,13 @@ ghost use Rattle.put.specs.Put.{wrote};
 ghost use Rattle.ctts.specs.Ctts.{ctts_of, ctts_in, entry_of};
 
 use layout::Field;
-use layout::table::Cut;
-use numbers::{Refusal, U32};
-use put::Put;
-use signed::I32;
+use numbers::Refusal;
 
 #[derive(Clone, Copy)]
 pub struct Ctts {
     pub version: u8,
     pub flags: u32,
     pub count: u32,
-}
-
-// The box, and where its entries begin.
-#[derive(Clone, Copy)]
-pub enum Found {
-    Is(Ctts, usize),
-    Refused(Refusal),
 }
 
 pub const KIND: u32 = 0x63747473;
@@ -38,16 +28,11 @@ pub const ROW: [Field; 8] = [
     Field::Nothing,
 ];
 
-pub fn read(part: &[u8]) -> Found
+// The box, and where its entries begin.
+pub fn read(part: &[u8]) -> Result<(Ctts, usize), Refusal>
     ensures { result ≡ ctts_of part.now }
 {
-    let got = short::read::by(part, KIND, ROW);
-    if got.number != 0 {
-        return Found::Refused(Refusal {
-            number: got.number,
-            detail: got.place,
-        });
-    }
+    let got = short::read::by(part, KIND, ROW)?;
     let v = got.values;
     let place = got.place;
     let end = got.end;
@@ -59,24 +44,18 @@ pub fn read(part: &[u8]) -> Found
     let cells = v[2] * 2;
     let cut = layout::table::first_cut(&part[..end], place, cells, 4);
     match cut {
-        Cut::Whole => Found::Is(ctts, place),
-        Cut::At(p) => Found::Refused(Refusal {
-            number: 1,
-            detail: p,
-        }),
+        None => Ok((ctts, place)),
+        Some(p) => Err(Refusal::Cut(p)),
     }
 }
 
 // The entries are lent as the bytes that they have in the box; 13 where they are not as many as the count says.
-pub fn write(ctts: Ctts, entries: &[u8], out: &mut [u8]) -> Put
+pub fn write(ctts: Ctts, entries: &[u8], out: &mut [u8]) -> Result<usize, Refusal>
     ensures { wrote result out.new ≡ ctts_in ctts entries.now out.old }
 {
     let size = ctts.count as u64 * 2 * 4;
     if entries.len() as u64 != size {
-        return Put::Refused(Refusal {
-            number: 13,
-            detail: 0,
-        });
+        return Err(Refusal::Unwritable);
     }
     let v = [
         ctts.version as u64,
@@ -98,30 +77,14 @@ pub struct Run {
     pub sample_offset: i32,
 }
 
-#[derive(Clone, Copy)]
-pub enum Listed {
-    Is(Run),
-    Refused(Refusal),
-}
-
 // The i-th pair, counted from 0, of the bytes of the entries.
-pub fn entry(entries: &[u8], i: u32) -> Listed
+pub fn entry(entries: &[u8], i: u32) -> Result<Run, Refusal>
     ensures { result ≡ entry_of entries.now i }
 {
     let at = (i as usize) * 8;
-    let U32::Is(count) = numbers::u32_at(entries, at) else {
-        return Listed::Refused(Refusal {
-            number: 1,
-            detail: at,
-        });
-    };
-    let I32::Is(offset) = signed::i32_at(entries, at + 4) else {
-        return Listed::Refused(Refusal {
-            number: 1,
-            detail: at + 4,
-        });
-    };
-    Listed::Is(Run {
+    let count = numbers::read::<u32>(entries, at)?;
+    let offset = signed::read::<i32>(entries, at + 4)?;
+    Ok(Run {
         sample_count: count,
         sample_offset: offset,
     })

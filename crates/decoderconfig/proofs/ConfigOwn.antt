@@ -1,5 +1,6 @@
 -- The content of a DecoderConfig that was read is sound and at least as long as what is written of it; where it is no
 -- longer, its bytes are those that are written. Assumes nothing.
+use Rattle.std.specs.Prelude.{Result, Option, Ok, Err, Some, None}
 use mathlib.Core.Path.{◌≡◌, refl, sym, ap, ap₂, ◌∙◌}
 use mathlib.Core.List.{List, [], ◌++◌, append-nil}
 use mathlib.Core.Bool.{true, false}
@@ -8,25 +9,20 @@ use Prim.Native.Nat.{ℕ, ◌+◌, ◌-◌, ◌^◌, ◌≤◌, ◌<◌}
 use native.Mathlib.Omega.{arith}
 use lib.ListN.{length}
 use Rattle.numbers.specs.Number.{be, bytes}
-use Rattle.numbers.specs.Field.{refusal}
+use Rattle.numbers.specs.declared.Refusal.TheVariants as refusal
 use Rattle.numbers.specs.declared.Refusal.{Refusal}
 use Rattle.numbers.proofs.Laws.{Bytes, be-below}
 use Rattle.numbers.proofs.Chain.{field-way, way}
 use Rattle.descriptor.proofs.Laws.{headed}
 use Rattle.descriptors.specs.Descriptors.{seek_of, span, descriptor_bytes}
-use Rattle.descriptors.specs.declared.Sought.{Sought}
-use Rattle.descriptors.specs.declared.Sought.TheVariants as sought
 use Rattle.descriptors.proofs.Laws as walk
 use Rattle.descriptors.proofs.Puts.{length-descriptor}
 use Rattle.descriptors.proofs.Own.{length-span, span_none, span-join, grown, stands, content-small, reaches, descriptor-own}
 use Rattle.decoderconfig.specs.DecoderConfig.{numbers_of, later, is_whole, info_by, info_of, config, with_info, with_numbers, config_of, sound, number_bytes, config_bytes}
 use Rattle.decoderconfig.specs.declared.Config.{Config}
-use Rattle.decoderconfig.specs.declared.Found.TheVariants.{Is, Refused}
-use Rattle.decoderconfig.specs.declared.Numbers.{Numbers}
-use Rattle.decoderconfig.specs.declared.Numbers.TheVariants as numbers
-use Rattle.decoderconfig.specs.declared.Info.{Info}
-use Rattle.decoderconfig.specs.declared.Info.TheVariants as info
 use Rattle.decoderconfig.proofs.Puts.{length-config, info-there, info-absent, with-info, without-info}
+use Rattle.descriptors.specs.declared.Sought.{Sought}
+use Rattle.descriptors.specs.Descriptors.{sought_record}
 
 -- THE NUMBERS
 
@@ -61,17 +57,19 @@ module _ (s : List ℕ) (at : ℕ) (b : Bytes s) where
       }
 
   module _ (o t z x a : ℕ) where
-    refused : (q : Refusal) → numbers.Refused q ≡ numbers.Are o t z x a → Read s at o t z x a
-    refused q e = let v : ◌≡◌ {A = ℕ} 0 1 = cc in absurd (omega arith)
+    refused : (q : Refusal) → ◌≡◌ {A = Result (ℕ × ℕ × ℕ × ℕ × ℕ) Refusal} (Err q) (Ok (o, t, z, x, a)) → Read s at o t z x a
+    refused q e = let v : ◌≡◌ {A = ℕ} 0 1 = cc e in absurd (omega arith)
 
-    told : at + 13 ≤ length s → numbers.Are (be 1 s at) (be 1 s (at + 1)) (be 3 s (at + 2)) (be 4 s (at + 5)) (be 4 s (at + 9)) ≡ numbers.Are o t z x a → Read s at o t z x a
+    told : at + 13 ≤ length s →
+        ◌≡◌ {A = Result (ℕ × ℕ × ℕ × ℕ × ℕ) Refusal} (Ok (be 1 s at, be 1 s (at + 1), be 3 s (at + 2), be 4 s (at + 5), be 4 s (at + 9))) (Ok (o, t, z, x, a)) → Read s at o t z x a
     told h e =
         let r = as_read h in
-        let e1 : be 1 s at ≡ o = cc in
-        let e2 : be 1 s (at + 1) ≡ t = cc in
-        let e3 : be 3 s (at + 2) ≡ z = cc in
-        let e4 : be 4 s (at + 5) ≡ x = cc in
-        let e5 : be 4 s (at + 9) ≡ a = cc in
+        let all : ◌≡◌ {A = ℕ × ℕ × ℕ × ℕ × ℕ} (be 1 s at, be 1 s (at + 1), be 3 s (at + 2), be 4 s (at + 5), be 4 s (at + 9)) (o, t, z, x, a) = cc e in
+        let e1 : be 1 s at ≡ o = ap (λ (n : ℕ × ℕ × ℕ × ℕ × ℕ). n.0) all in
+        let e2 : be 1 s (at + 1) ≡ t = ap (λ (n : ℕ × ℕ × ℕ × ℕ × ℕ). n.1) all in
+        let e3 : be 3 s (at + 2) ≡ z = ap (λ (n : ℕ × ℕ × ℕ × ℕ × ℕ). n.2) all in
+        let e4 : be 4 s (at + 5) ≡ x = ap (λ (n : ℕ × ℕ × ℕ × ℕ × ℕ). n.3) all in
+        let e5 : be 4 s (at + 9) ≡ a = ap (λ (n : ℕ × ℕ × ℕ × ℕ × ℕ). n.4) all in
         record {
           within = h;
           object = omega (arith, e1, r.object);
@@ -88,21 +86,21 @@ module _ (s : List ℕ) (at : ℕ) (b : Bytes s) where
               (ap (bytes 4) e5);
         }
 
-    numbers-own : numbers_of s at ≡ numbers.Are o t z x a → Read s at o t z x a
+    numbers-own : numbers_of s at ≡ Ok (o, t, z, x, a) → Read s at o t z x a
     numbers-own e =
         ⊎_elim
         (λ y. ⊎_elim
         (λ x. ⊎_elim
         (λ v. ⊎_elim
-        (λ u. ⊎_elim (λ w. told (omega (arith, w.0)) w.1) (λ w. refused _ w.1) (field-way 4 s (at + 9) numbers.Refused _ _ u.1))
+        (λ u. ⊎_elim (λ w. told (omega (arith, w.0)) w.1) (λ w. refused _ w.1) (field-way 4 s (at + 9) Err _ _ u.1))
         (λ u. refused _ u.1)
-        (field-way 4 s (at + 5) numbers.Refused _ _ v.1))
+        (field-way 4 s (at + 5) Err _ _ v.1))
         (λ v. refused _ v.1)
-        (field-way 3 s (at + 2) numbers.Refused _ _ x.1))
+        (field-way 3 s (at + 2) Err _ _ x.1))
         (λ x. refused _ x.1)
-        (field-way 1 s (at + 1) numbers.Refused _ _ y.1))
+        (field-way 1 s (at + 1) Err _ _ y.1))
         (λ y. refused _ y.1)
-        (field-way 1 s at numbers.Refused _ _ e)
+        (field-way 1 s at Err _ _ e)
 
 -- THE INFO
 
@@ -114,7 +112,7 @@ record Kept (s : List ℕ) (at from to : ℕ) : Type 0 where
   own : Bytes s → at + length (descriptor_bytes 5 (span s from to)) ≡ to → span s at to ≡ descriptor_bytes 5 (span s from to)
 
 module _ (s : List ℕ) (at from to : ℕ) where
-  as-found : (t p : ℕ) → seek_of s at 5 5 ≡ sought.Is t p from to → is_whole (span s from to) ≡ true → Kept s at from to
+  as-found : (t p : ℕ) → seek_of s at 5 5 ≡ Ok (Some (sought_record t p from to)) → is_whole (span s from to) ≡ true → Kept s at from to
   as-found t p e w =
       let h = walk.sought s 5 5 t p from to at e in
       let k = stands s 5 5 t p from to at e in
@@ -132,25 +130,33 @@ module _ (s : List ℕ) (at from to : ℕ) where
         own = λ b q. descriptor-own s at p t from to k.0 h x (omega (arith, l)) (omega (arith, q, lt, l5)) b refl ∙ ap (λ t. descriptor_bytes t x) five;
       }
 
-  info-own : info_of s at ≡ info.At from to → Kept s at from to
+  info-own : info_of s at ≡ Ok (Some (from, to)) → Kept s at from to
   info-own h = by (seek_of s at 5 5) refl h
     where
-      cut : (k : ℕ) → info.Refused (refusal 1 k) ≡ info.At from to → Kept s at from to
-      cut k e = let z : ◌≡◌ {A = ℕ} 0 1 = cc in absurd (omega arith)
+      cut : (q : Refusal) → ◌≡◌ {A = Result (Option (ℕ × ℕ)) Refusal} (Err q) (Ok (Some (from, to))) → Kept s at from to
+      cut q e = let z : ◌≡◌ {A = ℕ} 0 1 = cc e in absurd (omega arith)
 
-      moved : (f e t p : ℕ) → f ≡ from → e ≡ to → seek_of s at 5 5 ≡ sought.Is t p f e → is_whole (span s f e) ≡ true → Kept s at from to
-      moved f e t p a b q w = as-found t p (q ∙ ap₂ (sought.Is t p) a b) (ap is_whole (sym (ap₂ (span s) a b)) ∙ w)
+      none : {x : Result (Option (ℕ × ℕ)) Refusal} → x ≡ Ok (Some (from, to)) → x ≡ Ok None → Kept s at from to
+      none h e = let z : ◌≡◌ {A = ℕ} 0 1 = cc (h, e) in absurd (omega arith)
 
-      same : (f e : ℕ) (x : Sought) (t p : ℕ) → seek_of s at 5 5 ≡ sought.Is t p f e → is_whole (span s f e) ≡ true → later f e x ≡ info.At from to → Kept s at from to
-      same f e sought.End t p q w h = let a : f ≡ from = cc in let b : e ≡ to = cc in moved f e t p a b q w
-      same f e (sought.Is u v g k) t p q w h = let a : f ≡ from = cc in let b : e ≡ to = cc in moved f e t p a b q w
-      same f e (sought.Refused r) t p q w h = let z : ◌≡◌ {A = ℕ} 0 1 = cc in absurd (omega arith)
+      moved : (f e t p : ℕ) → seek_of s at 5 5 ≡ Ok (Some (sought_record t p f e)) → is_whole (span s f e) ≡ true →
+          ◌≡◌ {A = Result (Option (ℕ × ℕ)) Refusal} (Ok (Some (f, e))) (Ok (Some (from, to))) → Kept s at from to
+      moved f e t p q w h =
+          let r : ◌≡◌ {A = ℕ × ℕ} (f, e) (from, to) = cc h in
+          let a : f ≡ from = ap (λ (x : ℕ × ℕ). x.0) r in
+          let b : e ≡ to = ap (λ (x : ℕ × ℕ). x.1) r in
+          as-found t p (q ∙ ap₂ (λ c d. Ok (Some (sought_record t p c d))) a b) (ap is_whole (sym (ap₂ (span s) a b)) ∙ w)
 
-      by : (x : Sought) → seek_of s at 5 5 ≡ x → info_by s x ≡ info.At from to → Kept s at from to
-      by sought.End e h = let z : ◌≡◌ {A = ℕ} 0 1 = cc in absurd (omega arith)
-      by (sought.Is t p f k) e h =
-          ⊎_elim (λ y. same f k (seek_of s k 256 256) t p e y.0 y.1) (λ y. cut k y.1) (way (is_whole (span s f k)) _ _ _ h)
-      by (sought.Refused q) e h = let z : ◌≡◌ {A = ℕ} 0 1 = cc in absurd (omega arith)
+      same : (f e : ℕ) (x : Result (Option Sought) Refusal) (t p : ℕ) → seek_of s at 5 5 ≡ Ok (Some (sought_record t p f e)) → is_whole (span s f e) ≡ true → later f e x ≡ Ok (Some (from, to)) → Kept s at from to
+      same f e (Ok None) t p q w h = moved f e t p q w h
+      same f e (Ok (Some d)) t p q w h = moved f e t p q w h
+      same f e (Err r) t p q w h = cut r h
+
+      by : (x : Result (Option Sought) Refusal) → seek_of s at 5 5 ≡ x → info_by s x ≡ Ok (Some (from, to)) → Kept s at from to
+      by (Ok None) e h = none h refl
+      by (Ok (Some d)) e h =
+          ⊎_elim (λ y. same d.from d.to (seek_of s d.to 256 256) d.tag d.at e y.0 y.1) (λ y. cut _ y.1) (way (is_whole (span s d.from d.to)) _ _ _ h)
+      by (Err q) e h = cut q h
 
 -- ALL OF IT
 
@@ -189,11 +195,18 @@ module _ (s : List ℕ) (at : ℕ) (b : Bytes s) (o t z x a : ℕ) (r : Read s a
         own-sound = sym (with-info c y r.object r.stream r.buffer r.max r.avg refl f.small) ∙ f.whole;
       }
 
-pub config-own : (s : List ℕ) (at : ℕ) → Bytes s → (c : Config) (i j : ℕ) → config_of s at ≡ Is c i j → Own c s at i j
+pub config-own : (s : List ℕ) (at : ℕ) → Bytes s → (c : Config) (i j : ℕ) → config_of s at ≡ Ok (c, i, j) → Own c s at i j
 config-own s at b c i j h = by (numbers_of s at) refl h
   where
-    moved : (d : Config) (f g : ℕ) → d ≡ c → f ≡ i → g ≡ j → Own d s at f g → Own c s at i j
-    moved d f g e1 e2 e3 w =
+    refused : (q : Refusal) → ◌≡◌ {A = Result (Config × ℕ × ℕ) Refusal} (Err q) (Ok (c, i, j)) → Own c s at i j
+    refused q e = let z : ◌≡◌ {A = ℕ} 0 1 = cc e in absurd (omega arith)
+
+    moved : (d : Config) (f g : ℕ) → ◌≡◌ {A = Result (Config × ℕ × ℕ) Refusal} (Ok (d, f, g)) (Ok (c, i, j)) → Own d s at f g → Own c s at i j
+    moved d f g q w =
+        let r : ◌≡◌ {A = Config × ℕ × ℕ} (d, f, g) (c, i, j) = cc q in
+        let e1 : d ≡ c = ap (λ (x : Config × ℕ × ℕ). x.0) r in
+        let e2 : f ≡ i = ap (λ (x : Config × ℕ × ℕ). x.1) r in
+        let e3 : g ≡ j = ap (λ (x : Config × ℕ × ℕ). x.2) r in
         let ep : span s f g ≡ span s i j = ap₂ (span s) e2 e3 in
         let eb : config_bytes d (span s f g) ≡ config_bytes c (span s i j) = ap₂ config_bytes e1 ep in
         let el = ap length eb in
@@ -204,19 +217,12 @@ config-own s at b c i j h = by (numbers_of s at) refl h
           own-sound = ap₂ sound (sym e1) (sym ep) ∙ w.own-sound;
         }
 
-    on : (o t z x a : ℕ) (n : Info) → numbers_of s at ≡ numbers.Are o t z x a → info_of s (at + 13) ≡ n → with_info o t z x a n ≡ Is c i j → Own c s at i j
-    on o t z x a info.Absent f e q =
-        let k1 : config o t z x a false ≡ c = cc in
-        let k2 : 0 ≡ i = cc in
-        let k3 : 0 ≡ j = cc in
-        moved (config o t z x a false) 0 0 k1 k2 k3 (without s at b o t z x a (numbers-own s at b o t z x a f))
-    on o t z x a (info.At u v) f e q =
-        let k1 : config o t z x a true ≡ c = cc in
-        let k2 : u ≡ i = cc in
-        let k3 : v ≡ j = cc in
-        moved (config o t z x a true) u v k1 k2 k3 (with_it s at b o t z x a (numbers-own s at b o t z x a f) u v (info-own s (at + 13) u v e))
-    on o t z x a (info.Refused r) f e q = let z : ◌≡◌ {A = ℕ} 0 1 = cc in absurd (omega arith)
+    on : (o t z x a : ℕ) (n : Result (Option (ℕ × ℕ)) Refusal) → numbers_of s at ≡ Ok (o, t, z, x, a) → info_of s (at + 13) ≡ n → with_info o t z x a n ≡ Ok (c, i, j) → Own c s at i j
+    on o t z x a (Ok None) f e q = moved (config o t z x a false) 0 0 q (without s at b o t z x a (numbers-own s at b o t z x a f))
+    on o t z x a (Ok (Some (u, v))) f e q =
+        moved (config o t z x a true) u v q (with_it s at b o t z x a (numbers-own s at b o t z x a f) u v (info-own s (at + 13) u v e))
+    on o t z x a (Err r) f e q = refused r q
 
-    by : (n : Numbers) → numbers_of s at ≡ n → with_numbers s at n ≡ Is c i j → Own c s at i j
-    by (numbers.Are o t z x a) f q = on o t z x a (info_of s (at + 13)) f refl q
-    by (numbers.Refused r) f q = let z : ◌≡◌ {A = ℕ} 0 1 = cc in absurd (omega arith)
+    by : (n : Result (ℕ × ℕ × ℕ × ℕ × ℕ) Refusal) → numbers_of s at ≡ n → with_numbers s at n ≡ Ok (c, i, j) → Own c s at i j
+    by (Ok (o, t, z, x, a)) f q = on o t z x a (info_of s (at + 13)) f refl q
+    by (Err r) f q = refused r q

@@ -1,4 +1,5 @@
 -- What a reader found, taken apart: the numbers lie in the bytes, and so does the info. Assumes nothing.
+use Rattle.std.specs.Prelude.{Result, Option, Ok, Err, Some, None}
 use mathlib.Core.Path.{◌≡◌, refl, sym, ap, ◌∙◌}
 use mathlib.Core.List.{List}
 use mathlib.Core.Bool.{true, false}
@@ -7,119 +8,131 @@ use Prim.Native.Nat.{ℕ, ◌+◌, ◌≤◌}
 use native.Mathlib.Omega.{arith}
 use lib.ListN.{length}
 use Rattle.numbers.specs.declared.Refusal.{Refusal}
-use Rattle.numbers.specs.Field.{refusal}
+use Rattle.numbers.specs.declared.Refusal.TheVariants as refusal
 use Rattle.numbers.proofs.Chain.{field-way, by-true, by-false, way}
 use Rattle.descriptor.proofs.Laws.{headed}
 use Rattle.descriptors.specs.Descriptors.{seek_of, span}
-use Rattle.descriptors.specs.declared.Sought.{Sought}
-use Rattle.descriptors.specs.declared.Sought.TheVariants as sought
 use Rattle.descriptors.proofs.Laws as walk
 use Rattle.decoderconfig.specs.DecoderConfig.{numbers_of, later, is_whole, info_by, info_of, config, with_info, with_numbers, config_of}
 use Rattle.decoderconfig.specs.declared.Config.{Config}
-use Rattle.decoderconfig.specs.declared.Found.TheVariants.{Is, Refused}
-use Rattle.decoderconfig.specs.declared.Numbers.{Numbers}
-use Rattle.decoderconfig.specs.declared.Numbers.TheVariants as numbers
-use Rattle.decoderconfig.specs.declared.Info.{Info}
-use Rattle.decoderconfig.specs.declared.Info.TheVariants as info
+use Rattle.descriptors.specs.declared.Sought.{Sought}
+use Rattle.descriptors.specs.Descriptors.{sought_record}
 
 -- THE READER'S RETURNS
 
-module _ (s : List ℕ) (at : ℕ) (x : Sought) (ex : x ≡ seek_of s at 5 5) where
-  pub first-no : (q : Refusal) → x ≡ sought.Refused q → info.Refused q ≡ info_of s at
+module _ (s : List ℕ) (at : ℕ) (x : Result (Option Sought) Refusal) (ex : x ≡ seek_of s at 5 5) where
+  pub first-no : (q : Refusal) → x ≡ Err q → Err q ≡ info_of s at
   first-no q e = ap (info_by s) (sym e ∙ ex)
 
-  pub first-end : x ≡ sought.End → info.Absent ≡ info_of s at
+  pub first-end : x ≡ (Ok None) → (Ok None) ≡ info_of s at
   first-end e = ap (info_by s) (sym e ∙ ex)
 
-  module _ (t p from to : ℕ) (e : x ≡ sought.Is t p from to) where
-    pub info-cut : is_whole (span s from to) ≡ false → info.Refused (refusal 1 to) ≡ info_of s at
+  module _ (t p from to : ℕ) (e : x ≡ Ok (Some (sought_record t p from to))) where
+    pub info-cut : is_whole (span s from to) ≡ false → Err (refusal.Cut to) ≡ info_of s at
     info-cut w = by-false _ _ _ (is_whole (span s from to)) w refl ∙ ap (info_by s) (sym e ∙ ex)
 
-    module _ (w : is_whole (span s from to) ≡ true) (y : Sought) (ey : y ≡ seek_of s to 256 256) where
-      behind : (z : Info) → z ≡ later from to y → z ≡ info_of s at
+    module _ (w : is_whole (span s from to) ≡ true) (y : Result (Option Sought) Refusal) (ey : y ≡ seek_of s to 256 256) where
+      behind : (z : Result (Option (ℕ × ℕ)) Refusal) → z ≡ later from to y → z ≡ info_of s at
       behind z q = by-true _ _ _ (is_whole (span s from to)) w (q ∙ ap (later from to) ey) ∙ ap (info_by s) (sym e ∙ ex)
 
-      pub second-no : (q : Refusal) → y ≡ sought.Refused q → info.Refused q ≡ info_of s at
+      pub second-no : (q : Refusal) → y ≡ Err q → Err q ≡ info_of s at
       second-no q f = behind _ (ap (later from to) (sym f))
 
-      pub second-end : y ≡ sought.End → info.At from to ≡ info_of s at
+      pub second-end : y ≡ (Ok None) → Ok (Some (from, to)) ≡ info_of s at
       second-end f = behind _ (ap (later from to) (sym f))
 
-      pub second_is : (u v g h : ℕ) → y ≡ sought.Is u v g h → info.At from to ≡ info_of s at
+      pub second_is : (u v g h : ℕ) → y ≡ Ok (Some (sought_record u v g h)) → Ok (Some (from, to)) ≡ info_of s at
       second_is u v g h f = behind _ (ap (later from to) (sym f))
 
-module _ (s : List ℕ) (at : ℕ) (n : Numbers) (en : n ≡ numbers_of s at) where
-  pub numbers-no : (q : Refusal) → n ≡ numbers.Refused q → Refused q ≡ config_of s at
+module _ (s : List ℕ) (at : ℕ) (n : Result (ℕ × ℕ × ℕ × ℕ × ℕ) Refusal) (en : n ≡ numbers_of s at) where
+  pub numbers-no : (q : Refusal) → n ≡ Err q → Err q ≡ config_of s at
   numbers-no q e = ap (with_numbers s at) (sym e ∙ en)
 
-  module _ (o t z x a : ℕ) (e : n ≡ numbers.Are o t z x a) (i : Info) (ei : i ≡ info_of s (at + 13)) where
-    pub info-no : (q : Refusal) → i ≡ info.Refused q → Refused q ≡ config_of s at
+  module _ (o t z x a : ℕ) (e : n ≡ Ok (o, t, z, x, a)) (i : Result (Option (ℕ × ℕ)) Refusal) (ei : i ≡ info_of s (at + 13)) where
+    pub info-no : (q : Refusal) → i ≡ Err q → Err q ≡ config_of s at
     info-no q f = ap (with_info o t z x a) (sym f ∙ ei) ∙ ap (with_numbers s at) (sym e ∙ en)
 
-    pub info-none : i ≡ info.Absent → Is (config o t z x a false) 0 0 ≡ config_of s at
+    pub info-none : i ≡ (Ok None) → Ok (config o t z x a false, 0, 0) ≡ config_of s at
     info-none f = ap (with_info o t z x a) (sym f ∙ ei) ∙ ap (with_numbers s at) (sym e ∙ en)
 
-    pub info-some : (from to : ℕ) → i ≡ info.At from to → Is (config o t z x a true) from to ≡ config_of s at
+    pub info-some : (from to : ℕ) → i ≡ Ok (Some (from, to)) → Ok (config o t z x a true, from, to) ≡ config_of s at
     info-some from to f = ap (with_info o t z x a) (sym f ∙ ei) ∙ ap (with_numbers s at) (sym e ∙ en)
 
 -- WHAT WAS FOUND
 
 -- the numbers were read, so they were there
-pub there : (s : List ℕ) (at o t z x a : ℕ) → numbers_of s at ≡ numbers.Are o t z x a → at + 13 ≤ length s
+pub there : (s : List ℕ) (at o t z x a : ℕ) → numbers_of s at ≡ Ok (o, t, z, x, a) → at + 13 ≤ length s
 there s at o t z x a e =
     ⊎_elim
     (λ y. ⊎_elim
     (λ x. ⊎_elim
     (λ v. ⊎_elim
-    (λ u. ⊎_elim (λ w. omega (arith, w.0)) (λ w. refused _ w.1) (field-way 4 s (at + 9) numbers.Refused _ _ u.1))
+    (λ u. ⊎_elim (λ w. omega (arith, w.0)) (λ w. refused _ w.1) (field-way 4 s (at + 9) Err _ _ u.1))
     (λ u. refused _ u.1)
-    (field-way 4 s (at + 5) numbers.Refused _ _ v.1))
+    (field-way 4 s (at + 5) Err _ _ v.1))
     (λ v. refused _ v.1)
-    (field-way 3 s (at + 2) numbers.Refused _ _ x.1))
+    (field-way 3 s (at + 2) Err _ _ x.1))
     (λ x. refused _ x.1)
-    (field-way 1 s (at + 1) numbers.Refused _ _ y.1))
+    (field-way 1 s (at + 1) Err _ _ y.1))
     (λ y. refused _ y.1)
-    (field-way 1 s at numbers.Refused _ _ e)
+    (field-way 1 s at Err _ _ e)
   where
-    refused : (q : Refusal) → numbers.Refused q ≡ numbers.Are o t z x a → at + 13 ≤ length s
-    refused q e = let z : ◌≡◌ {A = ℕ} 0 1 = cc in absurd (omega arith)
+    refused : (q : Refusal) → ◌≡◌ {A = Result (ℕ × ℕ × ℕ × ℕ × ℕ) Refusal} (Err q) (Ok (o, t, z, x, a)) → at + 13 ≤ length s
+    refused q e = let z : ◌≡◌ {A = ℕ} 0 1 = cc e in absurd (omega arith)
 
 -- a descriptor that was found lies in the bytes
-pub found_in : (s : List ℕ) (at one other t p from to : ℕ) → seek_of s at one other ≡ sought.Is t p from to → (from ≤ to) × (to ≤ length s)
+pub found_in : (s : List ℕ) (at one other t p from to : ℕ) → seek_of s at one other ≡ Ok (Some (sought_record t p from to)) → (from ≤ to) × (to ≤ length s)
 found_in s at one other t p from to e =
     let h = headed s p t from to (walk.sought s one other t p from to at e) in
     (omega (arith, h.content), h.inside)
 
-info-in : (s : List ℕ) (at from to : ℕ) → info_of s at ≡ info.At from to → (from ≤ to) × (to ≤ length s)
+info-in : (s : List ℕ) (at from to : ℕ) → info_of s at ≡ Ok (Some (from, to)) → (from ≤ to) × (to ≤ length s)
 info-in s at from to h = by (seek_of s at 5 5) refl h
   where
-    same : (f e : ℕ) (x : Sought) → later f e x ≡ info.At from to → (f ≤ e) × (e ≤ length s) → (from ≤ to) × (to ≤ length s)
-    same f e sought.End h l = let a : f ≡ from = cc in let b : e ≡ to = cc in (omega (arith, l.0), omega (arith, l.1))
-    same f e (sought.Is t p g k) h l = let a : f ≡ from = cc in let b : e ≡ to = cc in (omega (arith, l.0), omega (arith, l.1))
-    same f e (sought.Refused q) h l = let z : ◌≡◌ {A = ℕ} 0 1 = cc in absurd (omega arith)
+    moved : (f e : ℕ) → ◌≡◌ {A = Result (Option (ℕ × ℕ)) Refusal} (Ok (Some (f, e))) (Ok (Some (from, to))) → (f ≤ e) × (e ≤ length s) → (from ≤ to) × (to ≤ length s)
+    moved f e h l =
+        let r : ◌≡◌ {A = ℕ × ℕ} (f, e) (from, to) = cc h in
+        let a : f ≡ from = ap (λ (x : ℕ × ℕ). x.0) r in
+        let b : e ≡ to = ap (λ (x : ℕ × ℕ). x.1) r in
+        (omega (arith, l.0), omega (arith, l.1))
 
-    cut : (k : ℕ) → info.Refused (refusal 1 k) ≡ info.At from to → (from ≤ to) × (to ≤ length s)
-    cut k e = let z : ◌≡◌ {A = ℕ} 0 1 = cc in absurd (omega arith)
+    none : {x : Result (Option (ℕ × ℕ)) Refusal} → x ≡ Ok (Some (from, to)) → x ≡ Ok None → (from ≤ to) × (to ≤ length s)
+    none h e = let z : ◌≡◌ {A = ℕ} 0 1 = cc (h, e) in absurd (omega arith)
 
-    by : (x : Sought) → seek_of s at 5 5 ≡ x → info_by s x ≡ info.At from to → (from ≤ to) × (to ≤ length s)
-    by sought.End e h = let z : ◌≡◌ {A = ℕ} 0 1 = cc in absurd (omega arith)
-    by (sought.Is t p f k) e h =
-        ⊎_elim (λ y. same f k (seek_of s k 256 256) y.1 (found_in s at 5 5 t p f k e)) (λ y. cut k y.1) (way (is_whole (span s f k)) _ _ _ h)
-    by (sought.Refused q) e h = let z : ◌≡◌ {A = ℕ} 0 1 = cc in absurd (omega arith)
+    cut : (q : Refusal) → ◌≡◌ {A = Result (Option (ℕ × ℕ)) Refusal} (Err q) (Ok (Some (from, to))) → (from ≤ to) × (to ≤ length s)
+    cut q e = let z : ◌≡◌ {A = ℕ} 0 1 = cc e in absurd (omega arith)
+
+    same : (f e : ℕ) (x : Result (Option Sought) Refusal) → later f e x ≡ Ok (Some (from, to)) → (f ≤ e) × (e ≤ length s) → (from ≤ to) × (to ≤ length s)
+    same f e (Ok None) h l = moved f e h l
+    same f e (Ok (Some d)) h l = moved f e h l
+    same f e (Err q) h l = cut q h
+
+    by : (x : Result (Option Sought) Refusal) → seek_of s at 5 5 ≡ x → info_by s x ≡ Ok (Some (from, to)) → (from ≤ to) × (to ≤ length s)
+    by (Ok None) e h = none h refl
+    by (Ok (Some d)) e h =
+        ⊎_elim (λ y. same d.from d.to (seek_of s d.to 256 256) y.1 (found_in s at 5 5 d.tag d.at d.from d.to e)) (λ y. cut _ y.1)
+        (way (is_whole (span s d.from d.to)) _ _ _ h)
+    by (Err q) e h = cut q h
 
 -- where the info lies
-pub inside : (s : List ℕ) (at : ℕ) (c : Config) (i j : ℕ) → config_of s at ≡ Is c i j → (i ≤ j) × (j ≤ length s)
+pub inside : (s : List ℕ) (at : ℕ) (c : Config) (i j : ℕ) → config_of s at ≡ Ok (c, i, j) → (i ≤ j) × (j ≤ length s)
 inside s at c i j h = by (numbers_of s at) h
   where
-    on : (o t z x a : ℕ) (n : Info) → info_of s (at + 13) ≡ n → with_info o t z x a n ≡ Is c i j → (i ≤ j) × (j ≤ length s)
-    on o t z x a info.Absent e q = let k : 0 ≡ i = cc in let l : 0 ≡ j = cc in (omega (arith, k, l), omega (arith, l))
-    on o t z x a (info.At f g) e q =
-        let k : f ≡ i = cc in
-        let l : g ≡ j = cc in
-        let w = info-in s (at + 13) f g e in
+    moved : (d : Config) (f g : ℕ) → ◌≡◌ {A = Result (Config × ℕ × ℕ) Refusal} (Ok (d, f, g)) (Ok (c, i, j)) → (f ≤ g) × (g ≤ length s) → (i ≤ j) × (j ≤ length s)
+    moved d f g q w =
+        let r : ◌≡◌ {A = Config × ℕ × ℕ} (d, f, g) (c, i, j) = cc q in
+        let k : f ≡ i = ap (λ (x : Config × ℕ × ℕ). x.1) r in
+        let l : g ≡ j = ap (λ (x : Config × ℕ × ℕ). x.2) r in
         (omega (arith, w.0), omega (arith, w.1))
-    on o t z x a (info.Refused r) e q = let z : ◌≡◌ {A = ℕ} 0 1 = cc in absurd (omega arith)
 
-    by : (n : Numbers) → with_numbers s at n ≡ Is c i j → (i ≤ j) × (j ≤ length s)
-    by (numbers.Are o t z x a) q = on o t z x a (info_of s (at + 13)) refl q
-    by (numbers.Refused r) q = let z : ◌≡◌ {A = ℕ} 0 1 = cc in absurd (omega arith)
+    refused : (q : Refusal) → ◌≡◌ {A = Result (Config × ℕ × ℕ) Refusal} (Err q) (Ok (c, i, j)) → (i ≤ j) × (j ≤ length s)
+    refused q e = let z : ◌≡◌ {A = ℕ} 0 1 = cc e in absurd (omega arith)
+
+    on : (o t z x a : ℕ) (n : Result (Option (ℕ × ℕ)) Refusal) → info_of s (at + 13) ≡ n → with_info o t z x a n ≡ Ok (c, i, j) → (i ≤ j) × (j ≤ length s)
+    on o t z x a (Ok None) e q = moved _ 0 0 q (omega arith, omega arith)
+    on o t z x a (Ok (Some (f, g))) e q = moved _ f g q (info-in s (at + 13) f g e)
+    on o t z x a (Err r) e q = refused r q
+
+    by : (n : Result (ℕ × ℕ × ℕ × ℕ × ℕ) Refusal) → with_numbers s at n ≡ Ok (c, i, j) → (i ≤ j) × (j ≤ length s)
+    by (Ok (o, t, z, x, a)) q = on o t z x a (info_of s (at + 13)) refl q
+    by (Err r) q = refused r q

@@ -1,4 +1,5 @@
 -- What the writer does, step by step. Assumes nothing.
+use Rattle.std.specs.Prelude.{Result, Ok, Err}
 use mathlib.Core.Path.{◌≡◌, refl, sym, ap, ap₂, ◌∙◌}
 use mathlib.Core.List.{List, [], ◌++◌}
 use mathlib.Core.Bool.{Bool, true, false, ◌&&◌}
@@ -10,19 +11,16 @@ use lib.Seq.{sets}
 use lib.Dec.{eqb, ltb}
 use borrow.Author.Tests.{lt-ltb, le-ltb, ltb-true, eqb-true}
 use Rattle.numbers.specs.Number.{bytes}
-use Rattle.numbers.specs.Field.{when, refusal}
+use Rattle.numbers.specs.Field.{when}
+use Rattle.numbers.specs.declared.Refusal.TheVariants as refusal
 use Rattle.numbers.specs.declared.Refusal.{Refusal}
-use Rattle.numbers.specs.declared.U32.{U32}
-use Rattle.numbers.specs.declared.U32.TheVariants as u32
 use Rattle.numbers.proofs.Laws.{length-bytes}
-use Rattle.numbers.proofs.Chain.{by-true, by-false, way}
-use Rattle.put.specs.Put.{wrote, put_of}
-use Rattle.put.specs.declared.Put.{Put}
-use Rattle.put.specs.declared.Put.TheVariants.{Done, Refused}
-use Rattle.put.proofs.Placed.{has_room, no-sum, no_room}
+use Rattle.numbers.proofs.Chain.{by-true, by-false, is_lt, way}
+use Rattle.put.specs.Put.{wrote, placed, put_of}
+use Rattle.put.proofs.Placed.{done, has_room, no-sum, no_room}
 use Rattle.descriptor.specs.Descriptor.{size_for}
 use Rattle.descriptors.specs.Descriptors.{descriptor_bytes, descriptor_in}
-use Rattle.descriptors.proofs.Puts.{length-descriptor, number_put, descriptor-put, more, same-long}
+use Rattle.descriptors.proofs.Puts.{length-descriptor, number_put, more, same-long}
 use Rattle.decoderconfig.specs.DecoderConfig.{is_whole, has, sound, number_bytes, info_bytes, config_bytes, size_of, config_in}
 use Rattle.decoderconfig.specs.declared.Config.{Config}
 
@@ -57,7 +55,7 @@ module _ (c : Config) (info : List ℕ) (ho : c.object_type_indication < 256 ^ 1
 
 and-true : (a b : Bool) → a && b ≡ true → (a ≡ true) × (b ≡ true)
 and-true true b h = (refl, h)
-and-true false b h = let z : ◌≡◌ {A = ℕ} 0 1 = cc in absurd (omega arith)
+and-true false b h = let z : ◌≡◌ {A = ℕ} 0 1 = cc h in absurd (omega arith)
 
 pub record Sound (c : Config) (info : List ℕ) : Type 0 where
   pub object : c.object_type_indication < 256 ^ 1
@@ -117,31 +115,31 @@ module _ (c : Config) (info : List ℕ) where
   pub long-without : c.has_info ≡ false → length (config_bytes c info) ≡ 13
   long-without e = omega (arith, length-config c info, ap length (info-absent c.has_info info e))
 
-  pub no_size : sound c info ≡ false → u32.Refused (refusal 13 0) ≡ size_of c info
+  pub no_size : sound c info ≡ false → Err refusal.Unwritable ≡ size_of c info
   no_size e = by-false _ _ _ (sound c info) e refl
 
-  pub its-size : (n : ℕ) → sound c info ≡ true → n ≡ length (config_bytes c info) → u32.Is n ≡ size_of c info
-  its-size n e q = by-true _ _ _ (sound c info) e (ap u32.Is q)
+  pub its-size : (n : ℕ) → sound c info ≡ true → n ≡ length (config_bytes c info) → Ok n ≡ size_of c info
+  its-size n e q = by-true _ _ _ (sound c info) e (ap Ok q)
 
   -- a size that was told
-  pub size-told : (r : U32) → r ≡ size_of c info → (n : ℕ) → r ≡ u32.Is n → (sound c info ≡ true) × (n ≡ length (config_bytes c info))
+  pub size-told : (r : Result ℕ Refusal) → r ≡ size_of c info → (n : ℕ) → r ≡ Ok n → (sound c info ≡ true) × (n ≡ length (config_bytes c info))
   size-told r e n f =
       ⊎_elim
-      (λ y. (y.0, let q : u32.Is (length (config_bytes c info)) ≡ u32.Is n = y.1 ∙ f in let z : n ≡ length (config_bytes c info) = cc in z))
-      (λ y. let q : u32.Refused (refusal 13 0) ≡ u32.Is n = y.1 ∙ f in let z : ◌≡◌ {A = ℕ} 0 1 = cc in absurd (omega arith))
+      (λ y. (y.0, let z : n ≡ length (config_bytes c info) = cc (y.1, f) in z))
+      (λ y. let z : ◌≡◌ {A = ℕ} 0 1 = cc (y.1, f) in absurd (omega arith))
       (way (sound c info) _ _ _ (sym e))
 
-  pub size-refused : (r : U32) → r ≡ size_of c info → (q : Refusal) → r ≡ u32.Refused q → sound c info ≡ false
+  pub size-refused : (r : Result ℕ Refusal) → r ≡ size_of c info → (q : Refusal) → r ≡ Err q → (sound c info ≡ false) × (q ≡ refusal.Unwritable)
   size-refused r e q f =
-      ⊎_elim (λ y. let z : u32.Is (length (config_bytes c info)) ≡ u32.Refused q = y.1 ∙ f in let v : ◌≡◌ {A = ℕ} 0 1 = cc in absurd (omega arith)) (λ y. y.0)
+      ⊎_elim (λ y. let v : ◌≡◌ {A = ℕ} 0 1 = cc (y.1, f) in absurd (omega arith)) (λ y. let v : q ≡ refusal.Unwritable = cc (y.1, f) in (y.0, v))
       (way (sound c info) _ _ _ (sym e))
 
 -- STORES
 
-pub numbers-put : (c : Config) (buf b1 b2 b3 b4 b5 : List ℕ) (p q r t u : Put) (at : ℕ) → at + 13 ≤ length buf → c.object_type_indication < 256 ^ 1 → c.stream < 256 ^ 1 →
+pub numbers-put : (c : Config) (buf b1 b2 b3 b4 b5 : List ℕ) (p q r t u : Result ℕ Refusal) (at : ℕ) → at + 13 ≤ length buf → c.object_type_indication < 256 ^ 1 → c.stream < 256 ^ 1 →
     c.buffer_size < 256 ^ 3 → c.max_bitrate < 256 ^ 4 → c.avg_bitrate < 256 ^ 4 → wrote p b1 ≡ put_of 1 c.object_type_indication at buf →
     wrote q b2 ≡ put_of 1 c.stream (at + 1) b1 → wrote r b3 ≡ put_of 3 c.buffer_size (at + 2) b2 → wrote t b4 ≡ put_of 4 c.max_bitrate (at + 5) b3 →
-    wrote u b5 ≡ put_of 4 c.avg_bitrate (at + 9) b4 → b5 ≡ sets buf at (number_bytes c)
+    wrote u b5 ≡ put_of 4 c.avg_bitrate (at + 9) b4 → wrote u b5 ≡ placed (number_bytes c) 13 at buf
 numbers-put c buf b1 b2 b3 b4 b5 p q r t u at h ho ht hz hx ha e1 e2 e3 e4 e5 =
     let x1 = bytes 1 c.object_type_indication in
     let x2 = bytes 1 c.stream in
@@ -160,45 +158,64 @@ numbers-put c buf b1 b2 b3 b4 b5 p q r t u at h ho ht hz hx ha e1 e2 e3 e4 e5 =
     let l3 : length b3 ≡ length b2 = same-long b2 b3 x3 (at + 2) f3 in
     let f4 : b4 ≡ sets b3 (at + 5) x4 = number_put 4 c.max_bitrate (at + 5) b3 b4 t (omega arith) hx (omega arith) e4 in
     let l4 : length b4 ≡ length b3 = same-long b3 b4 x4 (at + 5) f4 in
-    let f5 : b5 ≡ sets b4 (at + 9) x5 = number_put 4 c.avg_bitrate (at + 9) b4 b5 u (omega arith) ha (omega arith) e5 in
     let g2 : b2 ≡ sets buf at (x1 ++ x2) = more buf b1 b2 x1 x2 at (at + 1) f1 f2 (omega arith) in
     let g3 : b3 ≡ sets buf at (x1 ++ x2 ++ x3) = more buf b2 b3 (x1 ++ x2) x3 at (at + 2) g2 f3 (omega (arith, length-append x1 x2)) in
     let g4 : b4 ≡ sets buf at (x1 ++ x2 ++ x3 ++ x4) = more buf b3 b4 (x1 ++ x2 ++ x3) x4 at (at + 5) g3 f4 (omega (arith, length-append x1 x2, length-append (x1 ++ x2) x3)) in
-    more buf b4 b5 (x1 ++ x2 ++ x3 ++ x4) x5 at (at + 9) g4 f5 (omega (arith, length-append x1 x2, length-append (x1 ++ x2) x3, length-append (x1 ++ x2 ++ x3) x4))
+    let g5 : sets b4 (at + 9) x5 ≡ sets buf at (number_bytes c) =
+    more buf b4 _ (x1 ++ x2 ++ x3 ++ x4) x5 at (at + 9) g4 refl (omega (arith, length-append x1 x2, length-append (x1 ++ x2) x3, length-append (x1 ++ x2 ++ x3) x4)) in
+    e5 ∙ sym (done 4 c.avg_bitrate (at + 9) b4 (omega arith) ha (omega arith))
+    ∙ ap₂ (λ (n : ℕ) (b : List ℕ). wrote (Ok n) b) (let z : at + 9 + 4 ≡ at + 13 = omega arith in z) g5
+    ∙ has_room (number_bytes c) 13 at buf h
 
-module _ (t : Bool) (info : List ℕ) (at : ℕ) (out after : List ℕ) where
-  pub info-put : t ≡ true → at + length (info_bytes t info) ≤ length out → length info < 128 ^ 4 → (p : Put) → wrote p after ≡ descriptor_in 5 info at out → after ≡ sets out at (info_bytes t info)
-  info-put e r h p q =
-      descriptor-put 5 info at out after p h (omega (arith, r, ap length (info-there t info e))) q ∙ ap (sets out at) (sym (info-there t info e))
+-- numbers that have room
+module _ (c : Config) (at : ℕ) (out b : List ℕ) (p : Result ℕ Refusal) (h : at + 13 ≤ length out) (e : wrote p b ≡ placed (number_bytes c) 13 at out) where
+  numbers-are : wrote p b ≡ wrote (Ok (at + 13)) (sets out at (number_bytes c))
+  numbers-are = e ∙ sym (has_room (number_bytes c) 13 at out h)
 
-pub no-info-put : (t : Bool) (info : List ℕ) (at : ℕ) (out : List ℕ) → t ≡ false → out ≡ sets out at (info_bytes t info)
-no-info-put t info at out e = ap (sets out at) (sym (info-absent t info e))
+  pub numbers-done : b ≡ sets out at (number_bytes c)
+  numbers-done = cc numbers-are
+
+  pub numbers-room : (q : Refusal) → p ≡ Err q → ⊥
+  numbers-room q f = let z : ◌≡◌ {A = ℕ} 0 1 = cc (numbers-are, f) in omega arith
+
+module _ (t : Bool) (info : List ℕ) (at : ℕ) (out : List ℕ) where
+  pub info-put : t ≡ true → length info < 128 ^ 4 → descriptor_in 5 info at out ≡ placed (info_bytes t info) (length (info_bytes t info)) at out
+  info-put e h = sym (is_lt _ _ _ (length info) (128 ^ 4) h refl) ∙ ap (λ l. placed l (length l) at out) (sym (info-there t info e))
+
+  pub no-info-put : t ≡ false → at ≤ length out → wrote (Ok at) out ≡ placed (info_bytes t info) (length (info_bytes t info)) at out
+  no-info-put e h =
+      ap (λ n. wrote (Ok n) out) (let z : at ≡ at + 0 = omega arith in z) ∙ has_room [] 0 at out (omega arith)
+      ∙ ap (λ l. placed l (length l) at out) (sym (info-absent t info e))
 
 -- THE WHOLE CONTENT
 
 module _ (c : Config) (info : List ℕ) (at : ℕ) (out : List ℕ) where
-  pub unsound : sound c info ≡ false → wrote (Refused (refusal 13 0)) out ≡ config_in c info at out
+  pub unsound : sound c info ≡ false → wrote (Err refusal.Unwritable) out ≡ config_in c info at out
   unsound e = by-false _ _ _ (sound c info) e refl
 
   module _ (h : sound c info ≡ true) (n : ℕ) (e : n ≡ length (config_bytes c info)) where
-    pub no_end : length out < 2 ^ 64 → 2 ^ 64 ≤ at + n → wrote (Refused (refusal 9 0)) out ≡ config_in c info at out
+    pub no_end : length out < 2 ^ 64 → 2 ^ 64 ≤ at + n → wrote (Err refusal.Overflow) out ≡ config_in c info at out
     no_end l g = by-true _ _ _ (sound c info) h (no-sum (config_bytes c info) (length (config_bytes c info)) at out l (omega (arith, e, g)))
 
-    pub no_place : at + n < 2 ^ 64 → length out < at + n → wrote (Refused (refusal 12 (at + n))) out ≡ config_in c info at out
+    pub no_place : at + n < 2 ^ 64 → length out < at + n → wrote (Err (refusal.TooSmall (at + n))) out ≡ config_in c info at out
     no_place l g =
-        ap (λ n. wrote (Refused (refusal 12 (at + n))) out) e
+        ap (λ n. wrote (Err (refusal.TooSmall (at + n))) out) e
         ∙ by-true _ _ _ (sound c info) h (no_room (config_bytes c info) (length (config_bytes c info)) at out (omega (arith, e, l)) (omega (arith, e, g)))
 
-    pub all-put : at + n ≤ length out → (b1 b2 : List ℕ) → b1 ≡ sets out at (number_bytes c) → b2 ≡ sets b1 (at + 13) (info_bytes c.has_info info) →
-        wrote (Done (at + n)) b2 ≡ config_in c info at out
-    all-put g b1 b2 e1 e2 =
-        let f : b2 ≡ sets out at (config_bytes c info) =
-        more out b1 b2 (number_bytes c) (info_bytes c.has_info info) at (at + 13) e1 e2 (omega (arith, length-numbers c)) in
-        ap₂ (λ (n : ℕ) (b : List ℕ). wrote (Done (at + n)) b) e f
+    pub all-put : at + n ≤ length out → (b1 b2 : List ℕ) (p q : Result ℕ Refusal) → wrote p b1 ≡ placed (number_bytes c) 13 at out →
+        wrote q b2 ≡ placed (info_bytes c.has_info info) (length (info_bytes c.has_info info)) (at + 13) b1 → wrote q b2 ≡ config_in c info at out
+    all-put g b1 b2 p q e1 e2 =
+        let l = length-config c info in
+        let f1 : b1 ≡ sets out at (number_bytes c) = numbers-done c at out b1 p (omega (arith, e, l, g)) e1 in
+        let l1 : length b1 ≡ length out = same-long out b1 (number_bytes c) at f1 in
+        let f2 : sets b1 (at + 13) (info_bytes c.has_info info) ≡ sets out at (config_bytes c info) =
+        more out b1 _ (number_bytes c) (info_bytes c.has_info info) at (at + 13) f1 refl (omega (arith, length-numbers c)) in
+        e2 ∙ sym (has_room (info_bytes c.has_info info) (length (info_bytes c.has_info info)) (at + 13) b1 (omega (arith, e, l, l1, g)))
+        ∙ ap₂ (λ (n : ℕ) (b : List ℕ). wrote (Ok n) b) (let z : at + 13 + length (info_bytes c.has_info info) ≡ at + length (config_bytes c info) = omega (arith, l) in z) f2
         ∙ by-true _ _ _ (sound c info) h (has_room (config_bytes c info) (length (config_bytes c info)) at out (omega (arith, e, g)))
 
 -- a content that has room
-pub config-put : (c : Config) (info : List ℕ) (at : ℕ) (out after : List ℕ) (p : Put) → sound c info ≡ true → at + length (config_bytes c info) ≤ length out →
+pub config-put : (c : Config) (info : List ℕ) (at : ℕ) (out after : List ℕ) (p : Result ℕ Refusal) → sound c info ≡ true → at + length (config_bytes c info) ≤ length out →
     wrote p after ≡ config_in c info at out → after ≡ sets out at (config_bytes c info)
 config-put c info at out after p h r e =
     cc (e ∙ sym (by-true _ _ _ (sound c info) h (has_room (config_bytes c info) (length (config_bytes c info)) at out r)))

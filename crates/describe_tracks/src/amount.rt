@@ -1,7 +1,7 @@
 // How large a track is, and its summary: the frame rate, the width and the height, each as its whole part and the 65,536ths
 // behind it, and the microseconds.
 use crate::say;
-use summary::{Summary, Summed};
+use summary::Summary;
 
 // Tested against both ends, since no other number has a whole part of 64 bits.
 fn whole(x: f64) -> u64 {
@@ -33,7 +33,7 @@ pub(crate) fn tell(rt: &impl Print, trak: &[u8]) {
     say::eight(rt, b"bytes", track_size::bytes(trak));
     say::four(rt, b"bitrate", track_size::bitrate(trak));
     match track_size::summary(trak) {
-        Summed::Is(s) => summed(rt, s),
-        Summed::Refused(q) => say::refused(rt, b"summary", q),
+        Ok(s) => summed(rt, s),
+        Err(q) => say::refused(rt, b"summary", q),
     }
 }

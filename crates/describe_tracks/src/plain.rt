@@ -4,7 +4,6 @@ use language::Letters;
 use media::entries::Media;
 use media::handlers::Kind;
 use media::{entries, handlers};
-use track::Spoken;
 
 // Letters are printed as they are; a byte that is no printable ASCII as '?'.
 fn letter(b: u8) -> u8 {
@@ -20,8 +19,8 @@ fn spoken(rt: &impl Print, l: Letters) {
 
 fn language(rt: &impl Print, trak: &[u8]) {
     match track::language(trak) {
-        Spoken::Is(l) => spoken(rt, l),
-        Spoken::Refused(q) => say::refused(rt, b"language", q),
+        Ok(l) => spoken(rt, l),
+        Err(q) => say::refused(rt, b"language", q),
     }
 }
 
@@ -35,8 +34,8 @@ fn kind_word(rt: &impl Print, k: Kind) {
 
 fn kind(rt: &impl Print, trak: &[u8]) {
     match track::kind(trak) {
-        handlers::Told::Is(k) => kind_word(rt, k),
-        handlers::Told::Refused(q) => say::refused(rt, b"kind", q),
+        Ok(k) => kind_word(rt, k),
+        Err(q) => say::refused(rt, b"kind", q),
     }
 }
 
@@ -52,8 +51,8 @@ fn media_word(rt: &impl Print, m: Media) {
 
 fn coded(rt: &impl Print, trak: &[u8]) {
     match track::media(trak) {
-        entries::Told::Is(m) => media_word(rt, m),
-        entries::Told::Refused(q) => say::refused(rt, b"media", q),
+        Ok(m) => media_word(rt, m),
+        Err(q) => say::refused(rt, b"media", q),
     }
 }
 

@@ -1,5 +1,5 @@
 // The words of a line: the name of a getter first, then each behind a tab.
-use numbers::{Refusal, U8, U32, U64};
+use numbers::Refusal;
 
 pub(crate) fn text(rt: &impl Print, s: &[u8]) {
     let _ = rt.write_all(s);
@@ -32,8 +32,8 @@ pub(crate) fn word(rt: &impl Print, name: &[u8], told: &[u8]) {
 // The end of a line that tells a refusal.
 pub(crate) fn refusal(rt: &impl Print, q: Refusal) {
     text(rt, b"\trefused");
-    number(rt, q.number as u64);
-    number(rt, q.detail as u64);
+    number(rt, u64::from(q.code()));
+    number(rt, q.detail() as u64);
     end(rt);
 }
 
@@ -42,24 +42,24 @@ pub(crate) fn refused(rt: &impl Print, name: &[u8], q: Refusal) {
     refusal(rt, q);
 }
 
-pub(crate) fn one(rt: &impl Print, name: &[u8], answer: U8) {
+pub(crate) fn one(rt: &impl Print, name: &[u8], answer: Result<u8, Refusal>) {
     match answer {
-        U8::Is(n) => count(rt, name, n as u64),
-        U8::Refused(q) => refused(rt, name, q),
+        Ok(n) => count(rt, name, n as u64),
+        Err(q) => refused(rt, name, q),
     }
 }
 
-pub(crate) fn four(rt: &impl Print, name: &[u8], answer: U32) {
+pub(crate) fn four(rt: &impl Print, name: &[u8], answer: Result<u32, Refusal>) {
     match answer {
-        U32::Is(n) => count(rt, name, n as u64),
-        U32::Refused(q) => refused(rt, name, q),
+        Ok(n) => count(rt, name, n as u64),
+        Err(q) => refused(rt, name, q),
     }
 }
 
-pub(crate) fn eight(rt: &impl Print, name: &[u8], answer: U64) {
+pub(crate) fn eight(rt: &impl Print, name: &[u8], answer: Result<u64, Refusal>) {
     match answer {
-        U64::Is(n) => count(rt, name, n),
-        U64::Refused(q) => refused(rt, name, q),
+        Ok(n) => count(rt, name, n),
+        Err(q) => refused(rt, name, q),
     }
 }
 

@@ -1,7 +1,7 @@
 // What an H.264 track tells: its profile, and some parameter sets of either list.
 use crate::say;
-use profiles::{Profile, Told};
-use rows::Judged;
+use numbers::Refusal;
+use profiles::Profile;
 
 fn profile_word(rt: &impl Print, p: Profile) {
     match p {
@@ -15,8 +15,8 @@ fn profile_word(rt: &impl Print, p: Profile) {
 
 fn profile(rt: &impl Print, trak: &[u8]) {
     match track_video::profile(trak) {
-        Told::Is(p) => profile_word(rt, p),
-        Told::Refused(q) => say::refused(rt, b"video_profile", q),
+        Ok(p) => profile_word(rt, p),
+        Err(q) => say::refused(rt, b"video_profile", q),
     }
 }
 
@@ -27,12 +27,12 @@ fn part(rt: &impl Print, name: &[u8], i: u8, found: &[u8]) {
     say::end(rt);
 }
 
-fn judged(rt: &impl Print, name: &[u8], i: u8, answer: Judged) {
+fn judged(rt: &impl Print, name: &[u8], i: u8, answer: Result<(), Refusal>) {
     say::text(rt, name);
     say::number(rt, i as u64);
     match answer {
-        Judged::Fine => say::text(rt, b"\tfine\n"),
-        Judged::Wrong(q) => say::refusal(rt, q),
+        Ok(()) => say::text(rt, b"\tfine\n"),
+        Err(q) => say::refusal(rt, q),
     }
 }
 

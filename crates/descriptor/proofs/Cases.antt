@@ -1,4 +1,5 @@
 -- The ways of a length's bytes, one for each turn of the loop and each return, over plain variables. Assumes nothing.
+use Rattle.std.specs.Prelude.{Result, Ok, Err}
 use mathlib.Core.Path.{◌≡◌, refl, sym, ap, ◌∙◌}
 use mathlib.Core.List.{List, ◌∷◌}
 use Prim.Native.Nat.{ℕ, zero, suc, ◌+◌, ◌*◌, ◌-◌, ◌/◌, ◌%◌, ◌^◌, ◌≤◌, ◌<◌}
@@ -9,35 +10,35 @@ use lib.ListN.{length, get_or, set, length-set}
 use lib.Seq.{sets, length-sets}
 use lib.Dec.{ltb}
 use mathlib.Core.Logic.{⊎_elim}
-use Rattle.numbers.specs.Field.{refusal, when}
+use Rattle.numbers.specs.Field.{when}
+use Rattle.numbers.specs.declared.Refusal.TheVariants as refusal
 use Rattle.numbers.specs.declared.Refusal.{Refusal}
 use Rattle.numbers.proofs.Chain.{way, is_lt, not-lt, is_le, not-le}
 use Rattle.put.specs.Put.{Wrote, wrote, placed}
 use Rattle.put.proofs.Placed.{has_room, no-sum, no_room}
-use Rattle.put.specs.declared.Put.TheVariants as put
 use Rattle.descriptor.specs.Descriptor.{length_from, size_for, high, groups, head_by}
 use Rattle.descriptor.specs.declared.Length.{Length}
-use Rattle.descriptor.specs.declared.Length.TheVariants.{Is, Refused}
-use Rattle.descriptor.specs.declared.Head.TheVariants as head
+use Rattle.descriptor.specs.Descriptor.{head_record}
+use Rattle.descriptor.specs.Descriptor.{length_record}
 
 -- READING
 
 module _ (first n : ℕ) (s : List ℕ) (p k : ℕ) where
   -- a byte would follow the fourth
-  pub too_long : k ≡ 0 → Refused (refusal 8 first) ≡ length_from first k n s p
+  pub too_long : k ≡ 0 → Err (refusal.Value first) ≡ length_from first k n s p
   unfolding length_from
   too_long e = sym (ap (λ i. length_from first i n s p) e)
 
   module _ (j : ℕ) (e : k ≡ suc j) where
     -- the bytes end
-    pub cut : length s ≤ p → Refused (refusal 1 first) ≡ length_from first k n s p
+    pub cut : length s ≤ p → Err (refusal.Cut first) ≡ length_from first k n s p
     unfolding length_from
     cut h = not-lt _ _ _ p (length s) h refl ∙ sym (ap (λ i. length_from first i n s p) e)
 
     module _ (h : p < length s) (v : ℕ) (q : v ≡ n * 128 + get_or s p 0 % 128) where
-      pub last : get_or s p 0 < 128 → Is v (suc p) ≡ length_from first k n s p
+      pub last : get_or s p 0 < 128 → Ok (length_record v (suc p)) ≡ length_from first k n s p
       unfolding length_from
-      last b = is_lt _ _ _ p (length s) h (is_lt _ _ _ (get_or s p 0) 128 b (ap (λ x. Is x (suc p)) q)) ∙ sym (ap (λ i. length_from first i n s p) e)
+      last b = is_lt _ _ _ p (length s) h (is_lt _ _ _ (get_or s p 0) 128 b (ap (λ x. Ok (length_record x (suc p))) q)) ∙ sym (ap (λ i. length_from first i n s p) e)
 
       pub more : 128 ≤ get_or s p 0 → length_from first j v s (suc p) ≡ length_from first k n s p
       unfolding length_from
@@ -96,23 +97,23 @@ size_is n =
 -- bytes that depend on how many a length n has: `of` them, so many as `long` says
 module _ (n at : ℕ) (out : List ℕ) (of : ℕ → List ℕ) (long : ℕ → ℕ) where
   abbrev pub lengthed : Wrote
-  lengthed = when (ltb n (128 ^ 4)) (placed (of (size_for n)) (long (size_for n)) at out) (wrote (put.Refused (refusal 13 0)) out)
+  lengthed = when (ltb n (128 ^ 4)) (placed (of (size_for n)) (long (size_for n)) at out) (wrote (Err refusal.Unwritable) out)
 
   -- four bytes do not hold it
-  pub no-form : 128 ^ 4 ≤ n → wrote (put.Refused (refusal 13 0)) out ≡ lengthed
+  pub no-form : 128 ^ 4 ≤ n → wrote (Err refusal.Unwritable) out ≡ lengthed
   no-form h = not-lt _ _ _ n (128 ^ 4) h refl
 
   module _ (h : n < 128 ^ 4) (w : ℕ) (e : w ≡ size_for n) where
-    pub no_end : length out < 2 ^ 64 → 2 ^ 64 ≤ at + long w → wrote (put.Refused (refusal 9 0)) out ≡ lengthed
+    pub no_end : length out < 2 ^ 64 → 2 ^ 64 ≤ at + long w → wrote (Err refusal.Overflow) out ≡ lengthed
     no_end l g = is_lt _ _ _ n (128 ^ 4) h (no-sum (of w) (long w) at out l g ∙ ap (λ k. placed (of k) (long k) at out) e)
 
-    pub no_place : at + long w < 2 ^ 64 → length out < at + long w → wrote (put.Refused (refusal 12 (at + long w))) out ≡ lengthed
+    pub no_place : at + long w < 2 ^ 64 → length out < at + long w → wrote (Err (refusal.TooSmall (at + long w))) out ≡ lengthed
     no_place l g = is_lt _ _ _ n (128 ^ 4) h (no_room (of w) (long w) at out l g ∙ ap (λ k. placed (of k) (long k) at out) e)
 
-    pub in_place : (after : List ℕ) → after ≡ sets out at (of w) → at + long w ≤ length out → wrote (put.Done (at + long w)) after ≡ lengthed
+    pub in_place : (after : List ℕ) → after ≡ sets out at (of w) → at + long w ≤ length out → wrote (Ok (at + long w)) after ≡ lengthed
     in_place after q g =
         is_lt _ _ _ n (128 ^ 4) h
-        (ap (wrote (put.Done (at + long w))) q ∙ has_room (of w) (long w) at out g ∙ ap (λ k. placed (of k) (long k) at out) e)
+        (ap (wrote (Ok (at + long w))) q ∙ has_room (of w) (long w) at out g ∙ ap (λ k. placed (of k) (long k) at out) e)
 
 -- a tag is stored before the bytes of a length
 pub tagged : (out : List ℕ) (at tag : ℕ) (bs : List ℕ) → sets (set out at tag) (at + 1) bs ≡ sets out at (tag ∷ bs)
@@ -123,16 +124,16 @@ tagged-long out at tag k bs = length-sets (set out at tag) k bs ∙ length-set o
 
 -- HEADS
 
-module _ (s : List ℕ) (at tag : ℕ) (r : Length) where
-  pub head-no : (q : Refusal) → r ≡ Refused q → head.Refused q ≡ head_by s at tag r
+module _ (s : List ℕ) (at tag : ℕ) (r : Result Length Refusal) where
+  pub head-no : (q : Refusal) → r ≡ Err q → Err q ≡ head_by s at tag r
   unfolding head_by
   head-no q e = sym (ap (head_by s at tag) e)
 
-  module _ (n from : ℕ) (e : r ≡ Is n from) where
-    pub head-past : length s < from + n → head.Refused (refusal 1 at) ≡ head_by s at tag r
+  module _ (n from : ℕ) (e : r ≡ Ok (length_record n from)) where
+    pub head-past : length s < from + n → Err (refusal.Cut at) ≡ head_by s at tag r
     unfolding head_by
     head-past h = not-le _ _ _ (from + n) (length s) h refl ∙ sym (ap (head_by s at tag) e)
 
-    pub head-is : from + n ≤ length s → head.Is tag from (from + n) ≡ head_by s at tag r
+    pub head-is : from + n ≤ length s → Ok (head_record tag from (from + n)) ≡ head_by s at tag r
     unfolding head_by
     head-is h = is_le _ _ _ (from + n) (length s) h refl ∙ sym (ap (head_by s at tag) e)

@@ -1,22 +1,23 @@
-#![tactic(auto)]
+#![tactic(auto, unfolding(numbers::specs::Field::when, numbers::specs::Field::field))]
 // What every descriptor begins with: its tag, and its length in 7 bits a byte (ISO/IEC 14496-1, 7.2.6 and 8.3.3).
 ghost use Rattle.std.specs.Prelude.{◌≡◌, ◌%◌, ◌<◌};
 ghost use Rattle.descriptor.specs.Descriptor.{length_of, head_of};
 
-use numbers::{Refusal, U8};
+use numbers::Refusal;
 
+// A length, and the position after its last byte.
 #[derive(Clone, Copy)]
-pub enum Length {
-    // the length, and the position after its last byte
-    Is { value: u32, after: usize },
-    Refused(Refusal),
+pub struct Length {
+    pub value: u32,
+    pub after: usize,
 }
 
+// A tag; the content lies from `from` up to `to`.
 #[derive(Clone, Copy)]
-pub enum Head {
-    // the content lies from `from` up to `to`
-    Is { tag: u8, from: usize, to: usize },
-    Refused(Refusal),
+pub struct Head {
+    pub tag: u8,
+    pub from: usize,
+    pub to: usize,
 }
 
 // A byte's share of the length.
@@ -27,7 +28,7 @@ fn low(x: u8) -> u32
 }
 
 // The length at `at`. Both faults of a length are told at its first byte.
-pub fn length_at(s: &[u8], at: usize) -> Length
+pub fn length_at(s: &[u8], at: usize) -> Result<Length, Refusal>
     ensures { result ≡ length_of s.now at }
 {
     let mut value = 0;
@@ -35,52 +36,32 @@ pub fn length_at(s: &[u8], at: usize) -> Length
     let mut p = at;
     while i < 4 {
         if s.len() <= p {
-            return Length::Refused(Refusal {
-                number: 1,
-                detail: at,
-            });
+            return Err(Refusal::Cut(at));
         }
         let byte = s[p];
         value = value * 128 + low(byte);
         i = i + 1;
         p = p + 1;
         if byte < 128 {
-            return Length::Is {
-                value: value,
-                after: p,
-            };
+            return Ok(Length { value, after: p });
         }
     }
-    Length::Refused(Refusal {
-        number: 8,
-        detail: at,
-    })
+    Err(Refusal::Value(at))
 }
 
 // The tag and the length at `at`, of a descriptor that must end where s does, or before.
-pub fn head_at(s: &[u8], at: usize) -> Head
+#[tactic(auto, unfolding(numbers::specs::Field::when, numbers::specs::Field::field, crate::specs::Descriptor::head_by))]
+pub fn head_at(s: &[u8], at: usize) -> Result<Head, Refusal>
     ensures { result ≡ head_of s.now at }
 {
-    let U8::Is(tag) = numbers::u8_at(s, at) else {
-        return Head::Refused(Refusal {
-            number: 1,
-            detail: at,
-        });
-    };
-    match length_at(s, at + 1) {
-        Length::Refused(q) => Head::Refused(q),
-        Length::Is { value, after } => {
-            if s.len() - after < value as usize {
-                return Head::Refused(Refusal {
-                    number: 1,
-                    detail: at,
-                });
-            }
-            Head::Is {
-                tag: tag,
-                from: after,
-                to: after + (value as usize),
-            }
-        }
+    let tag = numbers::read::<u8>(s, at)?;
+    let Length { value, after } = length_at(s, at + 1)?;
+    if s.len() - after < value as usize {
+        return Err(Refusal::Cut(at));
     }
+    Ok(Head {
+        tag,
+        from: after,
+        to: after + (value as usize),
+    })
 }

@@ -1,4 +1,4 @@
-#![tactic(auto)]
+#![tactic(auto, unfolding(numbers::specs::Field::when, numbers::specs::Field::field))]
 // The writer of what every descriptor begins with (`descriptor`): its tag, and its length in 7 bits a byte.
 ghost use Rattle.std.specs.Prelude.{◌≡◌, ◌+◌, ◌^◌, ◌≤◌, length};
 ghost use Rattle.std.proofs.lemmas.List.Edits.{sets};
@@ -6,7 +6,6 @@ ghost use Rattle.put.specs.Put.{wrote};
 ghost use Rattle.descriptor.specs.Descriptor.{size_for, high, groups, length_in, head_in};
 
 use numbers::Refusal;
-use put::Put;
 
 // How many bytes the shortest form of a length has.
 pub fn length_size(value: u32) -> usize
@@ -59,59 +58,41 @@ fn store(out: &mut [u8], at: usize, w: usize, value: u32)
 }
 
 // The length at `at`, in its shortest form; 13 where four bytes do not hold it.
-pub fn put_length(out: &mut [u8], at: usize, value: u32) -> Put
+pub fn put_length(out: &mut [u8], at: usize, value: u32) -> Result<usize, Refusal>
     ensures { wrote result out.new ≡ length_in value at out.old }
 {
     if LONGEST < value {
-        return Put::Refused(Refusal {
-            number: 13,
-            detail: 0,
-        });
+        return Err(Refusal::Unwritable);
     }
     let w = length_size(value);
     if 0xffff_ffff_ffff_ffff - w < at {
-        return Put::Refused(Refusal {
-            number: 9,
-            detail: 0,
-        });
+        return Err(Refusal::Overflow);
     }
     let end = at + w;
     if out.len() < end {
-        return Put::Refused(Refusal {
-            number: 12,
-            detail: end,
-        });
+        return Err(Refusal::TooSmall(end));
     }
     store(out, at, w, value);
-    Put::Done(end)
+    Ok(end)
 }
 
 // The tag and the length at `at`. There is room for both before the first is written.
-pub fn put_head(out: &mut [u8], at: usize, tag: u8, value: u32) -> Put
+pub fn put_head(out: &mut [u8], at: usize, tag: u8, value: u32) -> Result<usize, Refusal>
     ensures { wrote result out.new ≡ head_in tag value at out.old }
 {
     if LONGEST < value {
-        return Put::Refused(Refusal {
-            number: 13,
-            detail: 0,
-        });
+        return Err(Refusal::Unwritable);
     }
     let w = length_size(value);
     let both = w + 1;
     if 0xffff_ffff_ffff_ffff - both < at {
-        return Put::Refused(Refusal {
-            number: 9,
-            detail: 0,
-        });
+        return Err(Refusal::Overflow);
     }
     let end = at + both;
     if out.len() < end {
-        return Put::Refused(Refusal {
-            number: 12,
-            detail: end,
-        });
+        return Err(Refusal::TooSmall(end));
     }
     out[at] = tag;
     store(out, at + 1, w, value);
-    Put::Done(end)
+    Ok(end)
 }

@@ -1,5 +1,6 @@
 -- What was read is at least as long as what is written of it; where it is no longer, its bytes are those that are written.
 -- Assumes nothing.
+use Rattle.std.specs.Prelude.{Result, Option, Ok, Err, Some}
 use mathlib.Core.Path.{◌≡◌, refl, sym, ap, ap₂, ◌∙◌}
 use mathlib.Core.List.{List, [], ◌∷◌, ◌++◌}
 use mathlib.Core.Logic.{◌⊎◌, inl, inr, ⊎_elim}
@@ -13,14 +14,16 @@ use Rattle.numbers.specs.Number.{be, bytes}
 use Rattle.numbers.proofs.Laws.{Bytes, bytes-be}
 use Rattle.numbers.proofs.Chain.{way}
 use Rattle.descriptor.specs.Descriptor.{size_for, head_bytes, head_of, length_of}
-use Rattle.descriptor.specs.declared.Head.{Head}
-use Rattle.descriptor.specs.declared.Head.TheVariants as head
-use Rattle.descriptor.specs.declared.Length.TheVariants as length-is
 use Rattle.descriptor.proofs.Laws.{size-grows, shortest, head-bytes-own}
 use Rattle.descriptor.proofs.Laws as laws
 use Rattle.descriptors.specs.Descriptors.{headed, seek_from, seek_of, span, descriptor_bytes}
-use Rattle.descriptors.specs.declared.Sought.TheVariants.{Is}
 use Rattle.descriptors.proofs.Puts.{length-descriptor}
+use Rattle.descriptor.specs.declared.Head.{Head}
+use Rattle.numbers.specs.declared.Refusal.{Refusal}
+use Rattle.descriptor.specs.Descriptor.{head_record}
+use Rattle.descriptor.specs.Descriptor.{length_record}
+use Rattle.descriptors.specs.declared.Sought.{Sought}
+use Rattle.descriptors.specs.Descriptors.{sought_record}
 
 -- SPANS
 
@@ -61,41 +64,42 @@ grown s at j w k x b h l e q =
 
 -- what a walk found stands no earlier than where it began, and has one of the tags
 module _ (s : List ℕ) (one other tag p from to : ℕ) where
-  same : (t at f e : ℕ) → (t ≡ one) ⊎ (t ≡ other) → Is t at f e ≡ Is tag p from to → (at ≤ p) × ((tag ≡ one) ⊎ (tag ≡ other))
+  same : (t at f e : ℕ) → (t ≡ one) ⊎ (t ≡ other) → ◌≡◌ {A = Result (Option Sought) Refusal} (Ok (Some (sought_record t at f e))) (Ok (Some (sought_record tag p from to))) → (at ≤ p) × ((tag ≡ one) ⊎ (tag ≡ other))
   same t at f e o q =
-      let a : at ≡ p = cc in
-      let b : tag ≡ t = cc in
+      let r : sought_record t at f e ≡ sought_record tag p from to = cc q in
+      let a : at ≡ p = ap (λ (x : Sought). x.at) r in
+      let b : tag ≡ t = sym (ap (λ (x : Sought). x.tag) r) in
       (omega (arith, a), ⊎_elim (λ y. inl (b ∙ y)) (λ y. inr (b ∙ y)) o)
 
-  found : (f at : ℕ) → seek_from f s at one other ≡ Is tag p from to → (at ≤ p) × ((tag ≡ one) ⊎ (tag ≡ other))
+  found : (f at : ℕ) → seek_from f s at one other ≡ Ok (Some (sought_record tag p from to)) → (at ≤ p) × ((tag ≡ one) ⊎ (tag ≡ other))
   unfolding seek_from
-  found zero at h = let z : ◌≡◌ {A = ℕ} 0 1 = cc in absurd (omega arith)
+  found zero at h = let z : ◌≡◌ {A = ℕ} 0 1 = cc h in absurd (omega arith)
   found (suc f) at h =
       ⊎_elim (λ y. by (head_of s at) refl y.1 (found f)) (λ y. let z : ◌≡◌ {A = ℕ} 0 1 = cc y.1 in absurd (omega arith))
       (way (ltb at (length s)) _ _ _ h)
     where
-      by : (x : Head) → head_of s at ≡ x → headed one other at (λ to. seek_from f s to one other) x ≡ Is tag p from to →
-          ((at : ℕ) → seek_from f s at one other ≡ Is tag p from to → (at ≤ p) × ((tag ≡ one) ⊎ (tag ≡ other))) → (at ≤ p) × ((tag ≡ one) ⊎ (tag ≡ other))
-      by (head.Refused q) e h on = let z : ◌≡◌ {A = ℕ} 0 1 = cc in absurd (omega arith)
-      by (head.Is t a b) e h on =
-          let w = laws.headed s at t a b e in
-          ⊎_elim (λ y. same t at a b (inl (eqb-true t one y.0)) y.1)
-          (λ y. ⊎_elim (λ v. same t at a b (inr (eqb-true t other v.0)) v.1)
-          (λ v. let r = on b v.1 in (omega (arith, r.0, w.before, w.content), r.1)) (way (eqb t other) _ _ _ y.1))
-          (way (eqb t one) _ _ _ h)
+      by : (x : Result Head Refusal) → head_of s at ≡ x → headed one other at (λ to. seek_from f s to one other) x ≡ Ok (Some (sought_record tag p from to)) →
+          ((at : ℕ) → seek_from f s at one other ≡ Ok (Some (sought_record tag p from to)) → (at ≤ p) × ((tag ≡ one) ⊎ (tag ≡ other))) → (at ≤ p) × ((tag ≡ one) ⊎ (tag ≡ other))
+      by (Err q) e h on = let z : ◌≡◌ {A = ℕ} 0 1 = cc h in absurd (omega arith)
+      by (Ok x) e h on =
+          let w = laws.headed s at x.tag x.from x.to e in
+          ⊎_elim (λ y. same x.tag at x.from x.to (inl (eqb-true x.tag one y.0)) y.1)
+          (λ y. ⊎_elim (λ v. same x.tag at x.from x.to (inr (eqb-true x.tag other v.0)) v.1)
+          (λ v. let r = on x.to v.1 in (omega (arith, r.0, w.before, w.content), r.1)) (way (eqb x.tag other) _ _ _ y.1))
+          (way (eqb x.tag one) _ _ _ h)
 
-  pub stands : (at : ℕ) → seek_of s at one other ≡ Is tag p from to → (at ≤ p) × ((tag ≡ one) ⊎ (tag ≡ other))
+  pub stands : (at : ℕ) → seek_of s at one other ≡ Ok (Some (sought_record tag p from to)) → (at ≤ p) × ((tag ≡ one) ⊎ (tag ≡ other))
   stands at h = found (length s) at h
 
 -- A DESCRIPTOR
 
 -- a head at p, which is `at` or behind it, and a content x that is no longer than what it tells
-module _ (s : List ℕ) (at p tag from to : ℕ) (a : at ≤ p) (h : head_of s p ≡ head.Is tag from to) (x : List ℕ) (l : length x ≤ to - from) where
+module _ (s : List ℕ) (at p tag from to : ℕ) (a : at ≤ p) (h : head_of s p ≡ Ok (head_record tag from to)) (x : List ℕ) (l : length x ≤ to - from) where
   its : laws.Headed s p tag from to
   its = laws.headed s p tag from to h
 
-  told : length_of s (p + 1) ≡ length-is.Is (to - from) from
-  told = its.length-is ∙ ap (λ k. length-is.Is k from) (let z : its.value ≡ to - from = omega (arith, its.content) in z)
+  told : length_of s (p + 1) ≡ Ok (length_record (to - from) from)
+  told = its.length-is ∙ ap (λ k. Ok (length_record k from)) (let z : its.value ≡ to - from = omega (arith, its.content) in z)
 
   room : p + 1 + size_for (to - from) ≤ from
   room = shortest s (p + 1) (to - from) from told

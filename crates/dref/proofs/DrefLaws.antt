@@ -1,4 +1,5 @@
 -- dref: what is written reads back the same, and a canonical box gives its own bytes. Assumes nothing.
+use Rattle.std.specs.Prelude.{Ok}
 use mathlib.Core.Path.{◌≡◌, refl}
 use mathlib.Core.List.{List, ◌++◌}
 use Prim.Native.Nat.{ℕ, ◌≤◌}
@@ -6,19 +7,17 @@ use native.Mathlib.Omega.{arith}
 use lib.ListN.{length, take, drop}
 use Rattle.numbers.specs.Field.{when}
 use Rattle.put.specs.Put.{wrote}
-use Rattle.put.specs.declared.Put.TheVariants.{Done}
 use Rattle.layout.specs.Rule.{rule_of}
 use Rattle.layout.specs.Canonical.{slots, firsts, Canonical}
 use Rattle.rounds.proofs.TailBoxes.{tail-back, tail-own}
 use Rattle.dref.specs.Dref.{kind, fields, from, to, dref_of, entries_of, dref_in}
 use Rattle.dref.specs.declared.Dref.{Dref}
-use Rattle.dref.specs.declared.Found.TheVariants.{Is, Refused}
 
-pub dref-back : (m : Dref) (entries buf : List ℕ) (n : ℕ) (out : List ℕ) → dref_in m entries buf ≡ wrote (Done n) out → (dref_of (take n out) ≡ Is m) × (entries_of (take n out) ≡ entries)
+pub dref-back : (m : Dref) (entries buf : List ℕ) (n : ℕ) (out : List ℕ) → dref_in m entries buf ≡ wrote (Ok n) out → (dref_of (take n out) ≡ Ok m) × (entries_of (take n out) ≡ entries)
 unfolding slots firsts rule_of when
-dref-back = tail-back Is Refused from to kind fields (omega arith) (λ m. refl)
+dref-back = tail-back from to kind fields (omega arith) (λ m. refl)
 
-pub dref-own : (b : List ℕ) (k : ℕ) → Canonical kind fields k b → (m : Dref) → dref_of b ≡ Is m → (buf : List ℕ) → length b ≤ length buf →
-    dref_in m (entries_of b) buf ≡ wrote (Done (length b)) (b ++ drop (length b) buf)
+pub dref-own : (b : List ℕ) (k : ℕ) → Canonical kind fields k b → (m : Dref) → dref_of b ≡ Ok m → (buf : List ℕ) → length b ≤ length buf →
+    dref_in m (entries_of b) buf ≡ wrote (Ok (length b)) (b ++ drop (length b) buf)
 unfolding slots firsts rule_of when
-dref-own = tail-own Is Refused from to kind fields (λ a b e. cc) (λ v. refl) (omega arith)
+dref-own = tail-own from to kind fields (λ v. refl) (omega arith)

@@ -1,15 +1,14 @@
 -- Where the media data of a track may lie (ISO/IEC 14496-12, 8.7.2): how many references there are, and then the boxes
 -- of these, to the box's end. Whether there are as many as the count says is told by the tree of boxes (A47).
 -- Assumes nothing.
-use Rattle.std.specs.Prelude.{ℕ, List, [], ◌∷◌, get_or}
+use Rattle.std.specs.Prelude.{ℕ, List, [], ◌∷◌, get_or, Result}
 use Rattle.put.specs.Put.{Wrote}
 use Rattle.layout.specs.Read.{read_of, answer, rest_of}
 use Rattle.layout.specs.Write.{write_of, padded, slotted}
 use Rattle.layout.specs.declared.Field.{Field}
 use Rattle.layout.specs.declared.Field.TheVariants.{Number, Version, Flags}
 use Rattle.dref.specs.declared.Dref.{Dref}
-use Rattle.dref.specs.declared.Found.{Found}
-use Rattle.dref.specs.declared.Found.TheVariants.{Is, Refused}
+use Rattle.numbers.specs.declared.Refusal.{Refusal}
 
 abbrev pub kind : ℕ
 kind = 0x64726566
@@ -24,8 +23,8 @@ from v = record { version = get_or v 0 0; flags = get_or v 1 0; count = get_or v
 abbrev pub to : Dref → List ℕ
 to m = slotted (m.version ∷ m.flags ∷ m.count ∷ [])
 
-abbrev pub dref_of : List ℕ → Found
-dref_of part = answer Is Refused from (read_of kind fields part)
+abbrev pub dref_of : List ℕ → Result Dref Refusal
+dref_of part = answer from (read_of kind fields part)
 
 abbrev pub entries_of : List ℕ → List ℕ
 entries_of part = rest_of (read_of kind fields part) part

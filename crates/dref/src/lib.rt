@@ -1,4 +1,4 @@
-#![tactic(auto)]
+#![tactic(auto, unfolding(numbers::specs::Field::when, numbers::specs::Field::field))]
 // Where the media data of a track may lie (ISO/IEC 14496-12, 8.7.2): how many references there are, and then the boxes
 // of these, to the box's end. Whether there are as many as the count says is told by the tree of boxes (A47).
 ghost use Rattle.std.specs.Prelude.{◌≡◌};
@@ -7,19 +7,12 @@ ghost use Rattle.dref.specs.Dref.{dref_of, entries_of, dref_in};
 
 use layout::Field;
 use numbers::Refusal;
-use put::Put;
 
 #[derive(Clone, Copy)]
 pub struct Dref {
     pub version: u8,
     pub flags: u32,
     pub count: u32,
-}
-
-#[derive(Clone, Copy)]
-pub enum Found {
-    Is(Dref),
-    Refused(Refusal),
 }
 
 pub const KIND: u32 = 0x64726566;
@@ -35,18 +28,12 @@ pub const ROW: [Field; 8] = [
     Field::Nothing,
 ];
 
-pub fn read(part: &[u8]) -> Found
+pub fn read(part: &[u8]) -> Result<Dref, Refusal>
     ensures { result ≡ dref_of part.now }
 {
-    let got = short::read::by(part, KIND, ROW);
-    if got.number != 0 {
-        return Found::Refused(Refusal {
-            number: got.number,
-            detail: got.place,
-        });
-    }
+    let got = short::read::by(part, KIND, ROW)?;
     let v = got.values;
-    Found::Is(Dref {
+    Ok(Dref {
         version: v[0] as u8,
         flags: v[1] as u32,
         count: v[2] as u32,
@@ -60,7 +47,7 @@ pub fn entries(part: &[u8]) -> &[u8]
     short::read::rest(part, KIND, ROW)
 }
 
-pub fn write(dref: Dref, entries: &[u8], out: &mut [u8]) -> Put
+pub fn write(dref: Dref, entries: &[u8], out: &mut [u8]) -> Result<usize, Refusal>
     ensures { wrote result out.new ≡ dref_in dref entries.now out.old }
 {
     let v = [

@@ -1,6 +1,6 @@
 -- The edit list (ISO/IEC 14496-12, 8.6.6): a count, and as many edits, with times of 4 bytes in version 0 and of 8 in
 -- version 1. A media time of -1 is an empty edit; below it is 8. Assumes nothing.
-use Rattle.std.specs.Prelude.{ℕ, ◌+◌, ◌*◌, List, [], ◌∷◌, get_or, eqb}
+use Rattle.std.specs.Prelude.{ℕ, ◌+◌, ◌*◌, List, [], ◌∷◌, get_or, eqb, Result, Ok, Err}
 use Rattle.numbers.specs.Field.{field}
 use Rattle.put.specs.Put.{Wrote}
 use Rattle.layout.specs.Read.{read_of}
@@ -11,14 +11,11 @@ use Rattle.rows.specs.Rows.{entries_of}
 use Rattle.rows.specs.Judge.{judged_of, write_judged}
 use Rattle.rows.specs.declared.Cell.{Cell}
 use Rattle.rows.specs.declared.Cell.TheVariants.{Any, Time}
-use Rattle.rows.specs.declared.Judged.{Judged}
 use Rattle.elst.specs.declared.Elst.{Elst}
-use Rattle.elst.specs.declared.Found.{Found}
-use Rattle.elst.specs.declared.Found.TheVariants.{Is, Refused}
 use Rattle.numbers.specs.Field.{when}
 use Rattle.signed.specs.Signed.{signed}
-use Rattle.elst.specs.declared.Listed.{Listed}
-use Rattle.elst.specs.declared.Listed.TheVariants as entry
+use Rattle.elst.specs.declared.Edit.{Edit}
+use Rattle.numbers.specs.declared.Refusal.{Refusal}
 
 abbrev pub kind : ℕ
 kind = 0x656c7374
@@ -49,24 +46,24 @@ abbrev pub size : Elst → ℕ
 size m = m.count * edit m.version
 
 -- how its entries are judged, from a position on
-abbrev pub judge : Elst → List ℕ → ℕ → Judged
+abbrev pub judge : Elst → List ℕ → ℕ → Result (Unit {0}) Refusal
 judge m b at = entries_of m.count (cells m.version) b at 0
 
-abbrev pub elst_of : List ℕ → Found
-elst_of part = judged_of Is Refused from judge part (read_of kind fields part)
+abbrev pub elst_of : List ℕ → Result (Elst × ℕ) Refusal
+elst_of part = judged_of from judge part (read_of kind fields part)
 
 abbrev pub elst_in : Elst → List ℕ → List ℕ → Wrote
 elst_in m entries out = write_judged kind fields (to m) (size m) (judge m entries 0) entries out
 
 -- an edit with times of w bytes
-abbrev pub edit_of : ℕ → List ℕ → ℕ → Listed
+abbrev pub edit_of : ℕ → List ℕ → ℕ → Result Edit Refusal
 edit_of w s at =
-    field entry.Refused w s at
-    (λ d. field entry.Refused w s (at + w)
-    (λ t. field entry.Refused 2 s (at + w + w)
-    (λ r. field entry.Refused 2 s (at + w + w + 2)
-    (λ f. entry.Is (record { segment_duration = d; media_time = signed w t; media_rate = signed 2 r; media_rate_fraction = signed 2 f })))))
+    field Err w s at
+    (λ d. field Err w s (at + w)
+    (λ t. field Err 2 s (at + w + w)
+    (λ r. field Err 2 s (at + w + w + 2)
+    (λ f. Ok (record { segment_duration = d; media_time = signed w t; media_rate = signed 2 r; media_rate_fraction = signed 2 f })))))
 
 -- the i-th edit
-abbrev pub entry_of : List ℕ → ℕ → ℕ → Listed
+abbrev pub entry_of : List ℕ → ℕ → ℕ → Result Edit Refusal
 entry_of entries version i = edit_of (width version) entries (i * edit version)

@@ -1,30 +1,21 @@
-#![tactic(auto)]
+#![tactic(auto, unfolding(numbers::specs::Field::when, numbers::specs::Field::field))]
 // The edit list (ISO/IEC 14496-12, 8.6.6): a count, and as many edits, with times of 4 bytes in version 0 and of 8 in
 // version 1. A media time of -1 is an empty edit; below it is 8.
-ghost use Rattle.std.specs.Prelude.{◌≡◌, ◌*◌};
+ghost use Rattle.std.specs.Prelude.{◌≡◌, ◌*◌, Ok, Err};
 ghost use Rattle.put.specs.Put.{wrote};
 ghost use Rattle.numbers.specs.Field.{field};
 ghost use Rattle.signed.specs.Signed.{signed};
 ghost use Rattle.elst.specs.Elst.{elst_of, elst_in, cells, width, edit, entry_of};
 
 use layout::Field;
-use numbers::{Refusal, U32, U64};
-use put::Put;
-use rows::{Cell, Judged};
-use signed::{I16, I32, I64};
+use numbers::Refusal;
+use rows::Cell;
 
 #[derive(Clone, Copy)]
 pub struct Elst {
     pub version: u8,
     pub flags: u32,
     pub count: u32,
-}
-
-// The box, and where its entries begin.
-#[derive(Clone, Copy)]
-pub enum Found {
-    Is(Elst, usize),
-    Refused(Refusal),
 }
 
 pub const KIND: u32 = 0x656c7374;
@@ -65,16 +56,11 @@ fn bytes_of(version: u8, n: u32) -> usize
     (n as usize) * (width_of(version) * 2 + 4)
 }
 
-pub fn read(part: &[u8]) -> Found
+// The box, and where its entries begin.
+pub fn read(part: &[u8]) -> Result<(Elst, usize), Refusal>
     ensures { result ≡ elst_of part.now }
 {
-    let got = short::read::by(part, KIND, ROW);
-    if got.number != 0 {
-        return Found::Refused(Refusal {
-            number: got.number,
-            detail: got.place,
-        });
-    }
+    let got = short::read::by(part, KIND, ROW)?;
     let v = got.values;
     let place = got.place;
     let end = got.end;
@@ -83,29 +69,21 @@ pub fn read(part: &[u8]) -> Found
         flags: v[1] as u32,
         count: v[2] as u32,
     };
-    match rows::judge(&part[..end], place, elst.count, cells_of(elst.version)) {
-        Judged::Fine => Found::Is(elst, place),
-        Judged::Wrong(q) => Found::Refused(q),
-    }
+    let () = rows::judge(&part[..end], place, elst.count, cells_of(elst.version))?;
+    Ok((elst, place))
 }
 
 // The entries are lent as the bytes that they have in the box; 13 where they are not as many as the count says, or
 // where the reader would refuse one.
-pub fn write(elst: Elst, entries: &[u8], out: &mut [u8]) -> Put
+pub fn write(elst: Elst, entries: &[u8], out: &mut [u8]) -> Result<usize, Refusal>
     ensures { wrote result out.new ≡ elst_in elst entries.now out.old }
 {
     let size = bytes_of(elst.version, elst.count);
     if entries.len() != size {
-        return Put::Refused(Refusal {
-            number: 13,
-            detail: 0,
-        });
+        return Err(Refusal::Unwritable);
     }
-    let Judged::Fine = rows::judge(entries, 0, elst.count, cells_of(elst.version)) else {
-        return Put::Refused(Refusal {
-            number: 13,
-            detail: 0,
-        });
+    let Ok(()) = rows::judge(entries, 0, elst.count, cells_of(elst.version)) else {
+        return Err(Refusal::Unwritable);
     };
     let v = [
         elst.version as u64,
@@ -128,70 +106,44 @@ pub struct Edit {
     pub media_rate_fraction: i16,
 }
 
-#[derive(Clone, Copy)]
-pub enum Listed {
-    Is(Edit),
-    Refused(Refusal),
-}
-
-fn duration_at(s: &[u8], version: u8, at: usize) -> U64
-    ensures { result ≡ field U64.Refused (width version) s.now at U64.Is }
+fn duration_at(s: &[u8], version: u8, at: usize) -> Result<u64, Refusal>
+    ensures { result ≡ field Err (width version) s.now at Ok }
 {
     if version == 1 {
-        return numbers::u64_at(s, at);
+        return numbers::read::<u64>(s, at);
     }
-    match numbers::u32_at(s, at) {
-        U32::Is(n) => U64::Is(n as u64),
-        U32::Refused(q) => U64::Refused(q),
-    }
+    let n = numbers::read::<u32>(s, at)?;
+    Ok(n as u64)
 }
 
-fn time_at(s: &[u8], version: u8, at: usize) -> I64
-    ensures { result ≡ field I64.Refused (width version) s.now at (λ n. I64.Is (signed (width version) n)) }
+fn time_at(s: &[u8], version: u8, at: usize) -> Result<i64, Refusal>
+    ensures { result ≡ field Err (width version) s.now at (λ n. Ok (signed (width version) n)) }
 {
     if version == 1 {
-        return signed::i64_at(s, at);
+        return signed::read::<i64>(s, at);
     }
-    match signed::i32_at(s, at) {
-        I32::Is(n) => I64::Is(n as i64),
-        I32::Refused(q) => I64::Refused(q),
-    }
+    let n = signed::read::<i32>(s, at)?;
+    Ok(n as i64)
 }
 
 // The i-th edit, counted from 0, of the bytes of the entries.
-pub fn entry(entries: &[u8], version: u8, i: u32) -> Listed
+pub fn entry(entries: &[u8], version: u8, i: u32) -> Result<Edit, Refusal>
     ensures { result ≡ entry_of entries.now version i }
 {
     let w = width_of(version);
     let first = bytes_of(version, i);
-    let U64::Is(duration) = duration_at(entries, version, first) else {
-        return Listed::Refused(Refusal {
-            number: 1,
-            detail: first,
-        });
+    let Ok(duration) = duration_at(entries, version, first) else {
+        return Err(Refusal::Cut(first));
     };
     let second = first + w;
-    let I64::Is(time) = time_at(entries, version, second) else {
-        return Listed::Refused(Refusal {
-            number: 1,
-            detail: second,
-        });
+    let Ok(time) = time_at(entries, version, second) else {
+        return Err(Refusal::Cut(second));
     };
     let third = second + w;
-    let I16::Is(rate) = signed::i16_at(entries, third) else {
-        return Listed::Refused(Refusal {
-            number: 1,
-            detail: third,
-        });
-    };
+    let rate = signed::read::<i16>(entries, third)?;
     let fourth = third + 2;
-    let I16::Is(fraction) = signed::i16_at(entries, fourth) else {
-        return Listed::Refused(Refusal {
-            number: 1,
-            detail: fourth,
-        });
-    };
-    Listed::Is(Edit {
+    let fraction = signed::read::<i16>(entries, fourth)?;
+    Ok(Edit {
         segment_duration: duration,
         media_time: time,
         media_rate: rate,

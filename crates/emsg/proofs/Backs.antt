@@ -1,4 +1,5 @@
 -- What was laid behind the flags, read where it stands. Assumes nothing.
+use Rattle.std.specs.Prelude.{Option, Ok, Err, Some, None}
 use mathlib.Core.Path.{◌≡◌, refl, sym, ap, ap₂, ◌∙◌}
 use mathlib.Core.List.{List, [], ◌∷◌, ◌++◌, append_assoc, append-nil}
 use mathlib.Core.Bool.{true}
@@ -15,11 +16,6 @@ use Rattle.strings.specs.Text.{text_at, text_end}
 use Rattle.emsg.specs.Emsg.{first_of, second_of, strings_of, numbers_of, emsg, places, after_strings, numbers_last, after_numbers, strings_last, content_of, span, whole, string_bytes, number_bytes, laid}
 use Rattle.emsg.specs.declared.Emsg.{Emsg}
 use Rattle.emsg.specs.declared.Places.{Places}
-use Rattle.emsg.specs.declared.Found.TheVariants.{Is}
-use Rattle.strings.specs.declared.Text.{Text}
-use Rattle.strings.specs.declared.Text.TheVariants.{End, Cut}
-use Rattle.emsg.specs.declared.Strings.TheVariants as strings
-use Rattle.emsg.specs.declared.Numbers.TheVariants as numbers
 use Rattle.emsg.proofs.Texts.{joined}
 use Rattle.emsg.proofs.Puts.{Sound, early-time, late-time, length-strings, length-numbers, laid-0, laid-1}
 
@@ -32,11 +28,11 @@ Lies b pre x rest at = (b ≡ pre ++ (x ++ rest)) × (at ≡ length pre)
 next : (b pre x y rest : List ℕ) (at n : ℕ) → Lies b pre x (y ++ rest) at → n ≡ length x → Lies b (pre ++ x) y rest (at + n)
 next b pre x y rest at n h e = (h.0 ∙ sym (append_assoc pre x (y ++ rest)), omega (arith, h.1, e, length-append pre x))
 
-is_cut : (t : Text) → whole t ≡ true → t ≡ Cut
-is_cut Cut h = refl
-is_cut (End e) h = let z : ◌≡◌ {A = ℕ} 0 1 = cc in absurd (omega arith)
+is_cut : (t : Option ℕ) → whole t ≡ true → t ≡ None
+is_cut None h = refl
+is_cut (Some e) h = let z : ◌≡◌ {A = ℕ} 0 1 = cc in absurd (omega arith)
 
-text-back : (b pre s rest : List ℕ) (at : ℕ) → Lies b pre s ((0 ∷ []) ++ rest) at → whole (text_at s 0) ≡ true → text_at b at ≡ End (at + length s)
+text-back : (b pre s rest : List ℕ) (at : ℕ) → Lies b pre s ((0 ∷ []) ++ rest) at → whole (text_at s 0) ≡ true → text_at b at ≡ Some (at + length s)
 text-back b pre s rest at h w =
     ap₂ (λ (l : List ℕ) (n : ℕ). text_end (drop n l) at) h.0 h.1
     ∙ ap (λ l. text_end l at) (drop-append_seam pre (s ++ (0 ∷ rest))) ∙ joined s rest 0 at (is_cut (text_at s 0) w)
@@ -64,14 +60,14 @@ module _ (b pre s v rest : List ℕ) (at : ℕ) (h : Lies b pre (string_bytes s 
       next b (pre ++ s) (0 ∷ []) v ((0 ∷ []) ++ rest) (at + length s) 1
       (next b pre s (0 ∷ []) (v ++ ((0 ∷ []) ++ rest)) at (length s) scheme-lies refl) refl
 
-  pub strings-back : strings_of b at ≡ strings.Are (at + length s) (at + length s + 1 + length v)
+  pub strings-back : strings_of b at ≡ Ok (at + length s, at + length s + 1 + length v)
   strings-back =
       ap (first_of b at) (text-back b pre s (v ++ ((0 ∷ []) ++ rest)) at scheme-lies hs)
       ∙ ap (second_of (at + length s)) (text-back b (pre ++ s ++ (0 ∷ [])) v rest (at + length s + 1) value-lies hv)
 
 module _ (m : Emsg) (w : ℕ) (b pre rest : List ℕ) (at : ℕ) (h : Lies b pre (number_bytes w m) rest at) (hs : m.timescale < 256 ^ 4) (ht : m.presentation_time < 256 ^ w)
     (hd : m.event_duration < 256 ^ 4) (hi : m.id < 256 ^ 4) where
-  pub numbers-back : numbers_of w b at ≡ numbers.Are m.timescale m.presentation_time m.event_duration m.id
+  pub numbers-back : numbers_of w b at ≡ Ok (m.timescale, m.presentation_time, m.event_duration, m.id)
   numbers-back =
       let x1 = bytes 4 m.timescale in
       let x2 = bytes w m.presentation_time in
@@ -85,16 +81,16 @@ module _ (m : Emsg) (w : ℕ) (b pre rest : List ℕ) (at : ℕ) (h : Lies b pre
       let r2 = number-back w m.presentation_time b (pre ++ x1) (x3 ++ (x4 ++ rest)) (at + 4) l2 ht in
       let r3 = number-back 4 m.event_duration b (pre ++ x1 ++ x2) (x4 ++ rest) (at + 4 + w) l3 hd in
       let r4 = number-back 4 m.id b (pre ++ x1 ++ x2 ++ x3) rest (at + 4 + w + 4) l4 hi in
-      sym (chain.whole 4 b at numbers.Refused _ _ m.timescale r1.0 r1.1
-      (chain.whole w b (at + 4) numbers.Refused _ _ m.presentation_time r2.0 r2.1
-      (chain.whole 4 b (at + 4 + w) numbers.Refused _ _ m.event_duration r3.0 r3.1
-      (chain.whole 4 b (at + 4 + w + 4) numbers.Refused _ _ m.id r4.0 r4.1 refl))))
+      sym (chain.whole 4 b at Err _ _ m.timescale r1.0 r1.1
+      (chain.whole w b (at + 4) Err _ _ m.presentation_time r2.0 r2.1
+      (chain.whole 4 b (at + 4 + w) Err _ _ m.event_duration r3.0 r3.1
+      (chain.whole 4 b (at + 4 + w + 4) Err _ _ m.id r4.0 r4.1 refl))))
 
 -- THE CONTENT: what is read of it, and its three parts
 
 pub record Back (m : Emsg) (s v message b : List ℕ) (at : ℕ) : Type 0 where
   pub p : Places
-  pub read : content_of b at m.version m.flags ≡ Is m p
+  pub read : content_of b at m.version m.flags ≡ Ok (m, p)
   pub scheme : span b p.scheme p.scheme_end ≡ s
   pub value : span b p.value p.value_end ≡ v
   pub rest : span b p.message p.end ≡ message
@@ -124,7 +120,7 @@ module _ (m : Emsg) (s v message b pre : List ℕ) (at : ℕ) (h : Lies b pre (l
         read =
             sym (is_eq _ _ _ m.version 0 e refl)
             ∙ ap (after_strings b at m.flags) sb ∙ ap (numbers_last b at m.flags (at + length s) f) nb
-            ∙ ap (λ m. Is m p) (versioned m 0 e);
+            ∙ ap (λ m. Ok (m, p)) (versioned m 0 e);
         scheme = span-back b pre s ((0 ∷ []) ++ (v ++ ((0 ∷ []) ++ (nums ++ (message ++ []))))) at (at + length s) (scheme-lies b pre s v (nums ++ (message ++ [])) at ls ok.scheme ok.value) refl;
         value = span-back b (pre ++ s ++ (0 ∷ [])) v ((0 ∷ []) ++ (nums ++ (message ++ []))) (at + length s + 1) f (value-lies b pre s v (nums ++ (message ++ [])) at ls ok.scheme ok.value) refl;
         rest =
@@ -152,7 +148,7 @@ module _ (m : Emsg) (s v message b pre : List ℕ) (at : ℕ) (h : Lies b pre (l
             sym (is_ne _ _ _ m.version 0 e0 refl)
             ∙ ap (after_numbers b at m.flags) nb
             ∙ ap (strings_last b (at + 20) m.flags m.timescale m.presentation_time m.event_duration m.id) sb
-            ∙ ap (λ m. Is m p) (versioned m 1 e);
+            ∙ ap (λ m. Ok (m, p)) (versioned m 1 e);
         scheme = span-back b (pre ++ nums) s ((0 ∷ []) ++ (v ++ ((0 ∷ []) ++ (message ++ [])))) (at + 20) (at + 20 + length s) (scheme-lies b (pre ++ nums) s v (message ++ []) (at + 20) ls ok.scheme ok.value) refl;
         value = span-back b (pre ++ nums ++ s ++ (0 ∷ [])) v ((0 ∷ []) ++ (message ++ [])) (at + 20 + length s + 1) f (value-lies b (pre ++ nums) s v (message ++ []) (at + 20) ls ok.scheme ok.value) refl;
         rest =

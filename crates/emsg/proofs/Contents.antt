@@ -1,40 +1,22 @@
 -- What a reader found, taken apart: the version says what stands first, and each place lies in the box. Assumes nothing.
-use mathlib.Core.Path.{◌≡◌, refl, ap, ◌∙◌}
+use Rattle.std.specs.Prelude.{Result, Ok, Err}
+use mathlib.Core.Path.{◌≡◌, refl, sym, ap}
 use mathlib.Core.List.{List}
-use mathlib.Core.Bool.{true}
 use mathlib.Core.Logic.{◌⊎◌, inl, inr, ⊎_elim}
 use Prim.Native.Nat.{ℕ, ◌+◌, ◌-◌, ◌≤◌, ◌<◌}
 use native.Mathlib.Omega.{arith}
 use lib.ListN.{length, length-take, get_or, take}
 use lib.Dec.{eqb}
 use borrow.Author.Tests.{eqb-true, eqb-false}
-use Rattle.numbers.specs.Field.{refusal}
-use Rattle.numbers.proofs.Chain.{is_eq, is_ne, way}
+use Rattle.numbers.proofs.Chain.{way}
 use Rattle.layout.specs.Read.{read_of}
 use Rattle.layout.specs.declared.read.Fields.{Fields}
 use Rattle.emsg.specs.Emsg.{kind, fields, strings_of, numbers_of, emsg, places, after_strings, numbers_last, after_numbers, strings_last, strings_first, numbers_first, content_of, full_of, emsg_of}
 use Rattle.emsg.specs.declared.Emsg.{Emsg}
 use Rattle.emsg.specs.declared.Places.{Places}
-use Rattle.emsg.specs.declared.Found.{Found}
-use Rattle.emsg.specs.declared.Found.TheVariants.{Is, Refused}
-use Rattle.emsg.specs.declared.Strings.{Strings}
-use Rattle.emsg.specs.declared.Strings.TheVariants as strings
-use Rattle.emsg.specs.declared.Numbers.{Numbers}
-use Rattle.emsg.specs.declared.Numbers.TheVariants as numbers
-use Rattle.emsg.proofs.Texts.{Both, both}
+use Rattle.emsg.proofs.Texts.{one-answer, Both, both}
 use Rattle.emsg.proofs.FourNumbers.{Four, four}
-
--- THE READER'S RETURNS
-
-module _ (b : List ℕ) (g : Fields) (e : g ≡ read_of kind fields b) where
-  pub unread : (g.number ≡ 0 → ⊥) → Refused (refusal g.number g.place) ≡ emsg_of b
-  unread h = is_ne _ _ _ g.number 0 h refl ∙ ap (full_of b) e
-
-  pub early-told : (r : Found) → g.number ≡ 0 → get_or g.values 0 0 ≡ 0 → r ≡ strings_first (take g.end b) g.place (get_or g.values 1 0) → r ≡ emsg_of b
-  early-told r h v q = is_eq _ _ _ g.number 0 h (is_eq _ _ _ (get_or g.values 0 0) 0 v q) ∙ ap (full_of b) e
-
-  pub late-told : (r : Found) → g.number ≡ 0 → (get_or g.values 0 0 ≡ 0 → ⊥) → r ≡ numbers_first (take g.end b) g.place (get_or g.values 1 0) → r ≡ emsg_of b
-  late-told r h v q = is_eq _ _ _ g.number 0 h (is_ne _ _ _ (get_or g.values 0 0) 0 v q) ∙ ap (full_of b) e
+use Rattle.numbers.specs.declared.Refusal.{Refusal}
 
 -- WHAT WAS FOUND
 
@@ -63,11 +45,12 @@ module _ (b : List ℕ) (at fl : ℕ) (m : Emsg) (p : Places) where
     pub is : m ≡ emsg 1 fl s t d i
     pub lies : p ≡ places (at + 20) e f (f + 1) (length b)
 
-  pub early : strings_first b at fl ≡ Is m p → Early
+  pub early : strings_first b at fl ≡ Ok (m, p) → Early
   early h = by (strings_of b at) refl h
     where
-      on : (e f : ℕ) (n : Numbers) → strings_of b at ≡ strings.Are e f → numbers_of 4 b (f + 1) ≡ n → numbers_last b at fl e f n ≡ Is m p → Early
-      on e f (numbers.Are s t d i) es en q =
+      on : (e f : ℕ) (n : Result (ℕ × ℕ × ℕ × ℕ) Refusal) → strings_of b at ≡ Ok (e, f) → numbers_of 4 b (f + 1) ≡ n → numbers_last b at fl e f n ≡ Ok (m, p) → Early
+      on e f (Ok (s, t, d, i)) es en q =
+          let w = one-answer {A = Emsg × Places} {E = Refusal} (emsg 0 fl s t d i, places at e f (f + 1 + 16) (length b)) (m, p) q in
           record {
             e = e;
             f = f;
@@ -77,20 +60,21 @@ module _ (b : List ℕ) (at fl : ℕ) (m : Emsg) (p : Places) where
             i = i;
             texts = both b at e f es;
             numbers = four 4 b (f + 1) s t d i en;
-            is = let z : m ≡ emsg 0 fl s t d i = cc in z;
-            lies = let z : p ≡ places at e f (f + 1 + 16) (length b) = cc in z;
+            is = sym (ap (λ x. x.0) w);
+            lies = sym (ap (λ x. x.1) w);
           }
-      on e f (numbers.Refused q) es en h = let z : ◌≡◌ {A = ℕ} 0 1 = cc in absurd (omega arith)
+      on e f (Err q) es en h = let z : ◌≡◌ {A = ℕ} 0 1 = cc in absurd (omega arith)
 
-      by : (s : Strings) → strings_of b at ≡ s → after_strings b at fl s ≡ Is m p → Early
-      by (strings.Are e f) es q = on e f (numbers_of 4 b (f + 1)) es refl q
-      by (strings.Refused q) es h = let z : ◌≡◌ {A = ℕ} 0 1 = cc in absurd (omega arith)
+      by : (s : Result (ℕ × ℕ) Refusal) → strings_of b at ≡ s → after_strings b at fl s ≡ Ok (m, p) → Early
+      by (Ok (e, f)) es q = on e f (numbers_of 4 b (f + 1)) es refl q
+      by (Err q) es h = let z : ◌≡◌ {A = ℕ} 0 1 = cc in absurd (omega arith)
 
-  pub late : numbers_first b at fl ≡ Is m p → Late
+  pub late : numbers_first b at fl ≡ Ok (m, p) → Late
   late h = by (numbers_of 8 b at) refl h
     where
-      on : (s t d i : ℕ) (x : Strings) → numbers_of 8 b at ≡ numbers.Are s t d i → strings_of b (at + 20) ≡ x → strings_last b (at + 20) fl s t d i x ≡ Is m p → Late
-      on s t d i (strings.Are e f) en es q =
+      on : (s t d i : ℕ) (x : Result (ℕ × ℕ) Refusal) → numbers_of 8 b at ≡ Ok (s, t, d, i) → strings_of b (at + 20) ≡ x → strings_last b (at + 20) fl s t d i x ≡ Ok (m, p) → Late
+      on s t d i (Ok (e, f)) en es q =
+          let w = one-answer {A = Emsg × Places} {E = Refusal} (emsg 1 fl s t d i, places (at + 20) e f (f + 1) (length b)) (m, p) q in
           record {
             e = e;
             f = f;
@@ -100,35 +84,32 @@ module _ (b : List ℕ) (at fl : ℕ) (m : Emsg) (p : Places) where
             i = i;
             numbers = four 8 b at s t d i en;
             texts = both b (at + 20) e f es;
-            is = let z : m ≡ emsg 1 fl s t d i = cc in z;
-            lies = let z : p ≡ places (at + 20) e f (f + 1) (length b) = cc in z;
+            is = sym (ap (λ x. x.0) w);
+            lies = sym (ap (λ x. x.1) w);
           }
-      on s t d i (strings.Refused q) en es h = let z : ◌≡◌ {A = ℕ} 0 1 = cc in absurd (omega arith)
+      on s t d i (Err q) en es h = let z : ◌≡◌ {A = ℕ} 0 1 = cc in absurd (omega arith)
 
-      by : (n : Numbers) → numbers_of 8 b at ≡ n → after_numbers b at fl n ≡ Is m p → Late
-      by (numbers.Are s t d i) en q = on s t d i (strings_of b (at + 20)) en refl q
-      by (numbers.Refused q) en h = let z : ◌≡◌ {A = ℕ} 0 1 = cc in absurd (omega arith)
+      by : (n : Result (ℕ × ℕ × ℕ × ℕ) Refusal) → numbers_of 8 b at ≡ n → after_numbers b at fl n ≡ Ok (m, p) → Late
+      by (Ok (s, t, d, i)) en q = on s t d i (strings_of b (at + 20)) en refl q
+      by (Err q) en h = let z : ◌≡◌ {A = ℕ} 0 1 = cc in absurd (omega arith)
 
 -- a box that was read: its version and flags, and what follows them
 pub record Opened (b : List ℕ) (m : Emsg) (p : Places) : Type 0 where
-  pub read : (read_of kind fields b).number ≡ 0
-  pub content : let g = read_of kind fields b in
+  pub g : Fields
+  pub read : read_of kind fields b ≡ Ok g
+  pub content :
       ((get_or g.values 0 0 ≡ 0) × Early (take g.end b) g.place (get_or g.values 1 0) m p)
       ⊎ ((get_or g.values 0 0 ≡ 0 → ⊥) × Late (take g.end b) g.place (get_or g.values 1 0) m p)
 
-pub opened : (b : List ℕ) (m : Emsg) (p : Places) → emsg_of b ≡ Is m p → Opened b m p
-opened b m p h = ⊎_elim (λ y. read_is y.0 y.1) (λ y. refused y.1) (way (eqb g.number 0) _ _ _ h)
+pub opened : (b : List ℕ) (m : Emsg) (p : Places) → emsg_of b ≡ Ok (m, p) → Opened b m p
+opened b m p h = by (read_of kind fields b) refl h
   where
-    g : Fields
-    g = read_of kind fields b
-
-    refused : Refused (refusal g.number g.place) ≡ Is m p → Opened b m p
-    refused q = let z : ◌≡◌ {A = ℕ} 0 1 = cc in absurd (omega arith)
-
-    read_is : eqb g.number 0 ≡ true → content_of (take g.end b) g.place (get_or g.values 0 0) (get_or g.values 1 0) ≡ Is m p → Opened b m p
-    read_is z q =
+    by : (r : Result Fields Refusal) → read_of kind fields b ≡ r → full_of b r ≡ Ok (m, p) → Opened b m p
+    by (Err q) e z = let y : ◌≡◌ {A = ℕ} 0 1 = cc z in absurd (omega arith)
+    by (Ok g) e q =
         record {
-          read = eqb-true g.number 0 z;
+          g = g;
+          read = e;
           content =
               ⊎_elim (λ y. inl (eqb-true (get_or g.values 0 0) 0 y.0, early _ _ _ m p y.1))
               (λ y. inr (eqb-false (get_or g.values 0 0) 0 y.0, late _ _ _ m p y.1))
@@ -146,11 +127,11 @@ pub record Inside (b : List ℕ) (p : Places) : Type 0 where
   pub message : p.message ≤ p.end
   pub message-in : p.end ≤ length b
 
-pub inside : (b : List ℕ) (m : Emsg) (p : Places) → emsg_of b ≡ Is m p → Inside b p
+pub inside : (b : List ℕ) (m : Emsg) (p : Places) → emsg_of b ≡ Ok (m, p) → Inside b p
 inside b m p h = ⊎_elim (λ y. as-early y.1) (λ y. as-late y.1) (opened b m p h).content
   where
     g : Fields
-    g = read_of kind fields b
+    g = (opened b m p h).g
 
     l : length (take g.end b) ≤ length b
     l = omega (arith, length-take g.end b)

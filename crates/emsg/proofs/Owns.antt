@@ -1,4 +1,5 @@
 -- What was read behind the flags, laid again: the box's own bytes. Assumes nothing.
+use Rattle.std.specs.Prelude.{Some}
 use mathlib.Core.Path.{◌≡◌, sym, ap, ap₂, ◌∙◌}
 use mathlib.Core.List.{List, [], ◌∷◌, ◌++◌, append_assoc}
 use mathlib.Core.Bool.{true}
@@ -15,7 +16,6 @@ use Rattle.strings.specs.Text.{text_at}
 use Rattle.emsg.specs.Emsg.{emsg, span, whole, wide, sound, string_bytes, number_bytes, laid}
 use Rattle.emsg.specs.declared.Emsg.{Emsg}
 use Rattle.emsg.specs.declared.Places.{Places}
-use Rattle.strings.specs.declared.Text.TheVariants.{End}
 use Rattle.emsg.proofs.Texts.{ended, Both}
 use Rattle.emsg.proofs.FourNumbers.{Four}
 use Rattle.emsg.proofs.Contents.{Early, Late}
@@ -32,7 +32,7 @@ four-on t a b c d = simp append_assoc
 span-grows : (b : List ℕ) (from to : ℕ) → from ≤ to → take from b ++ span b from to ≡ take to b
 span-grows b from to h = sym (take-add from (to - from) b) ∙ ap (λ n. take n b) (let z : from + (to - from) ≡ to = omega (arith, h) in z)
 
-zero_is : (b : List ℕ) (at e : ℕ) → text_at b at ≡ End e → get_or b e 0 ≡ 0
+zero_is : (b : List ℕ) (at e : ℕ) → text_at b at ≡ Some e → get_or b e 0 ≡ 0
 zero_is b at e h =
     let i = ended (drop at b) at e h in
     let n = e - at in
@@ -40,11 +40,11 @@ zero_is b at e h =
     ap (λ k. get_or b k 0) (let z : e ≡ at + n = omega (arith, i.from) in z)
     ∙ sym (get_or-drop at b n 0) ∙ ap (λ l. get_or l n 0) (sym i.same) ∙ get_or_at (take n (drop at b)) 0 (drop (suc n) (drop at b)) 0 n l
 
-zero-grows : (b : List ℕ) (at e : ℕ) → text_at b at ≡ End e → e < length b → take e b ++ (0 ∷ []) ≡ take (e + 1) b
+zero-grows : (b : List ℕ) (at e : ℕ) → text_at b at ≡ Some e → e < length b → take e b ++ (0 ∷ []) ≡ take (e + 1) b
 zero-grows b at e h l =
     ap (λ x. take e b ++ (x ∷ [])) (sym (zero_is b at e h)) ∙ sym (take-suc b e 0 l) ∙ ap (λ n. take n b) (sym (add-one e))
 
-clear : (b : List ℕ) (at e : ℕ) → text_at b at ≡ End e → whole (text_at (span b at e) 0) ≡ true
+clear : (b : List ℕ) (at e : ℕ) → text_at b at ≡ Some e → whole (text_at (span b at e) 0) ≡ true
 clear b at e h = ap whole (ended (drop at b) at e h).clear
 
 strings-own : (b : List ℕ) (at e f : ℕ) → Both b at e f → take at b ++ string_bytes (span b at e) (span b (e + 1) f) ≡ take (f + 1) b

@@ -1,4 +1,5 @@
 -- What `write` does, step by step. Assumes nothing.
+use Rattle.std.specs.Prelude.{Result, Ok, Err}
 use mathlib.Core.Path.{◌≡◌, refl, sym, ap, ap₂, ◌∙◌}
 use mathlib.Core.List.{List, [], ◌∷◌, ◌++◌, append-nil}
 use mathlib.Core.Bool.{Bool, true, false, ◌&&◌}
@@ -10,13 +11,12 @@ use lib.Seq.{sets, sets-eq, length-sets}
 use lib.Dec.{eqb}
 use borrow.Author.Tests.{eq-eqb, ne_eqb, eqb-true, eqb-false, lt-ltb, le-ltb, ltb-true}
 use Rattle.numbers.specs.Number.{bytes}
-use Rattle.numbers.specs.Field.{when, refusal, widest}
+use Rattle.numbers.specs.Field.{when, widest}
+use Rattle.numbers.specs.declared.Refusal.TheVariants as refusal
 use Rattle.numbers.proofs.Laws.{length-bytes}
 use Rattle.numbers.proofs.Chain.{is_eq, is_ne, is_lt, not-lt, by-true, by-false}
 use Rattle.put.specs.Put.{Wrote, wrote, put_of}
 use Rattle.put.specs.Put as put
-use Rattle.put.specs.declared.Put.{Put}
-use Rattle.put.specs.declared.Put.TheVariants.{Done, Refused}
 use Rattle.put.proofs.Placed.{done, has_room}
 use Rattle.put.proofs.Stores.{sets-append}
 use Rattle.boxes.specs.Header.{plain_bytes, header_in}
@@ -29,6 +29,7 @@ use Rattle.layout.proofs.Writes.{length-full, headed, parted}
 use Rattle.strings.specs.Text.{text_at}
 use Rattle.emsg.specs.Emsg.{kind, fields, wide, whole, has, sound, string_bytes, number_bytes, laid, emsg_in}
 use Rattle.emsg.specs.declared.Emsg.{Emsg}
+use Rattle.numbers.specs.declared.Refusal.{Refusal}
 
 -- THE TIME'S WIDTH
 
@@ -118,7 +119,7 @@ sounds m s v h =
 -- RUNS OF STORES
 
 -- a number that has its bytes and room for them
-pub stored : (w n at : ℕ) (buf out : List ℕ) (p : Put) → w ≤ widest → n < 256 ^ w → at + w ≤ length buf → wrote p out ≡ put_of w n at buf → out ≡ sets buf at (bytes w n)
+pub stored : (w n at : ℕ) (buf out : List ℕ) (p : Result ℕ Refusal) → w ≤ widest → n < 256 ^ w → at + w ≤ length buf → wrote p out ≡ put_of w n at buf → out ≡ sets buf at (bytes w n)
 stored w n at buf out p hw hn h e = cc (e ∙ sym (done w n at buf hw hn h))
 
 -- a run behind another
@@ -136,7 +137,7 @@ length-numbers w m =
     simp length-append
     (omega (arith, length-bytes 4 m.timescale, length-bytes w m.presentation_time, length-bytes 4 m.event_duration, length-bytes 4 m.id))
 
-pub strings-put : (s v buf b1 b2 b3 b4 : List ℕ) (p q r t : Put) (at : ℕ) → at + length (string_bytes s v) ≤ length buf →
+pub strings-put : (s v buf b1 b2 b3 b4 : List ℕ) (p q r t : Result ℕ Refusal) (at : ℕ) → at + length (string_bytes s v) ≤ length buf →
     wrote p b1 ≡ put.placed s (length s) at buf → wrote q b2 ≡ put_of 1 0 (at + length s) b1 →
     wrote r b3 ≡ put.placed v (length v) (at + length s + 1) b2 → wrote t b4 ≡ put_of 1 0 (at + length s + 1 + length v) b3 → b4 ≡ sets buf at (string_bytes s v)
 unfolding bytes
@@ -154,7 +155,7 @@ strings-put s v buf b1 b2 b3 b4 p q r t at h e1 e2 e3 e4 =
     more buf b3 b4 (s ++ (0 ∷ []) ++ v) (0 ∷ []) at (at + length s + 1 + length v) g3 f4
     (omega (arith, length-append s (0 ∷ []), length-append (s ++ (0 ∷ [])) v))
 
-pub numbers-put : (m : Emsg) (w : ℕ) (buf b1 b2 b3 b4 : List ℕ) (p q r t : Put) (at : ℕ) → at + 12 + w ≤ length buf → w ≤ 8 → m.timescale < 256 ^ 4 →
+pub numbers-put : (m : Emsg) (w : ℕ) (buf b1 b2 b3 b4 : List ℕ) (p q r t : Result ℕ Refusal) (at : ℕ) → at + 12 + w ≤ length buf → w ≤ 8 → m.timescale < 256 ^ 4 →
     m.presentation_time < 256 ^ w → m.event_duration < 256 ^ 4 → m.id < 256 ^ 4 → wrote p b1 ≡ put_of 4 m.timescale at buf →
     wrote q b2 ≡ put_of w m.presentation_time (at + 4) b1 → wrote r b3 ≡ put_of 4 m.event_duration (at + 4 + w) b2 →
     wrote t b4 ≡ put_of 4 m.id (at + 4 + w + 4) b3 → b4 ≡ sets buf at (number_bytes w m)
@@ -197,7 +198,7 @@ length-laid-1 m s v message e =
     ∙ (let z : length (number_bytes 8 m ++ string_bytes s v ++ message) ≡ length (string_bytes s v) + 20 + length message =
     omega (arith, length-append (number_bytes 8 m ++ string_bytes s v) message, length-append (number_bytes 8 m) (string_bytes s v), length-numbers 8 m) in z)
 
-module _ (m : Emsg) (s v message buf b1 b2 b3 : List ℕ) (p q : ℕ) (r : Put) (room : 12 + length (laid m s v message) ≤ length buf) where
+module _ (m : Emsg) (s v message buf b1 b2 b3 : List ℕ) (p q : ℕ) (r : Result ℕ Refusal) (room : 12 + length (laid m s v message) ≤ length buf) where
   pub early-put : m.version ≡ 0 → b1 ≡ sets buf 12 (string_bytes s v) → p ≡ 12 + length (string_bytes s v) → b2 ≡ sets b1 p (number_bytes 4 m) → q ≡ p + 12 + 4 →
       wrote r b3 ≡ put.placed message (length message) q b2 → b3 ≡ sets buf 12 (laid m s v message)
   early-put e e1 ep e2 eq e3 =
@@ -269,17 +270,17 @@ pub by-fixed : (w k n f r : ℕ) → f ≡ 26 + w → r ≡ min (f + n) k → r 
 by-fixed w k n f r e q = q ∙ ap (λ f. min (f + n) k) e
 
 module _ (m : Emsg) (s v message buf : List ℕ) where
-  pub unsound : sound m s v ≡ false → wrote (Refused (refusal 13 0)) buf ≡ emsg_in m s v message buf
+  pub unsound : sound m s v ≡ false → wrote (Err refusal.Unwritable) buf ≡ emsg_in m s v message buf
   unsound h = by-false _ _ _ (sound m s v) h refl
 
   module _ (hs : sound m s v ≡ true) where
     made_so : (z : Wrote) (x : Made) → row m.version m.flags ≡ x → z ≡ placed kind (laid m s v message) buf x → z ≡ emsg_in m s v message buf
     made_so z x e q = by-true _ _ _ (sound m s v) hs (q ∙ ap (placed kind (laid m s v message) buf) (sym e))
 
-    pub other-version : 1 < m.version → wrote (Refused (refusal 13 0)) buf ≡ emsg_in m s v message buf
+    pub other-version : 1 < m.version → wrote (Err refusal.Unwritable) buf ≡ emsg_in m s v message buf
     other-version h = made_so _ bad (no-version m.version m.flags h) refl
 
-    pub long-flags : m.version ≤ 1 → 2 ^ 24 - 1 < m.flags → wrote (Refused (refusal 13 0)) buf ≡ emsg_in m s v message buf
+    pub long-flags : m.version ≤ 1 → 2 ^ 24 - 1 < m.flags → wrote (Err refusal.Unwritable) buf ≡ emsg_in m s v message buf
     long-flags hv h = made_so _ bad (no-flags m.version m.flags hv h) refl
 
     module _ (hv : m.version ≤ 1) (hf : m.flags ≤ 2 ^ 24 - 1) (n1 n2 n : ℕ) (e1 : n1 ≡ min (26 + wide m.version + length s) (2 ^ 32))
@@ -306,7 +307,7 @@ module _ (m : Emsg) (s v message buf : List ℕ) where
       unfolding all code
       so z q = made_so z (made code) (coded m.version m.flags hv (omega (arith, hf))) q
 
-      pub too_long : 2 ^ 32 - 1 < n → wrote (Refused (refusal 13 0)) buf ≡ emsg_in m s v message buf
+      pub too_long : 2 ^ 32 - 1 < n → wrote (Err refusal.Unwritable) buf ≡ emsg_in m s v message buf
       too_long h = so _ (is_lt _ _ _ (2 ^ 32 - 1) (length all) (omega (arith, is-long)) refl)
 
       module _ (h : n ≤ 2 ^ 32 - 1) where
@@ -316,13 +317,13 @@ module _ (m : Emsg) (s v message buf : List ℕ) where
         same : n ≡ length all
         same = omega (arith, is-long)
 
-        pub too_small : length buf < n → wrote (Refused (refusal 12 n)) buf ≡ emsg_in m s v message buf
+        pub too_small : length buf < n → wrote (Err (refusal.TooSmall n)) buf ≡ emsg_in m s v message buf
         too_small b =
             so _ (not-lt _ _ _ (2 ^ 32 - 1) (length all) (omega (arith, same))
-            (is_lt _ _ _ (length buf) (length all) (omega (arith, same)) (ap (λ n. wrote (Refused (refusal 12 n)) buf) same)))
+            (is_lt _ _ _ (length buf) (length all) (omega (arith, same)) (ap (λ n. wrote (Err (refusal.TooSmall n)) buf) same)))
 
-        pub all-put : n ≤ length buf → (b1 b2 b3 : List ℕ) (p q : Put) → wrote p b1 ≡ header_in kind n 0 buf → wrote q b2 ≡ full_in m.version m.flags 8 b1 →
-            b3 ≡ sets b2 12 (laid m s v message) → wrote (Done n) b3 ≡ emsg_in m s v message buf
+        pub all-put : n ≤ length buf → (b1 b2 b3 : List ℕ) (p q : Result ℕ Refusal) → wrote p b1 ≡ header_in kind n 0 buf → wrote q b2 ≡ full_in m.version m.flags 8 b1 →
+            b3 ≡ sets b2 12 (laid m s v message) → wrote (Ok n) b3 ≡ emsg_in m s v message buf
         unfolding all code
         all-put b b1 b2 b3 p q f1 f2 f3 =
             let k = length-bytes 4 n in
@@ -341,4 +342,4 @@ module _ (m : Emsg) (s v message buf : List ℕ) where
             t3 ∙ ap (sets buf 0) ea ∙ sets-eq all buf 0 (let f : 0 + length all ≤ length buf = omega (arith, same) in f)
             ∙ ap (λ k. all ++ drop k buf) (zero-add (length all)) in
             so _ (not-lt _ _ _ (2 ^ 32 - 1) (length all) (omega (arith, same))
-            (not-lt _ _ _ (length buf) (length all) (omega (arith, same)) (ap₂ (λ (n : ℕ) (b : List ℕ). wrote (Done n) b) same t4)))
+            (not-lt _ _ _ (length buf) (length all) (omega (arith, same)) (ap₂ (λ (n : ℕ) (b : List ℕ). wrote (Ok n) b) same t4)))

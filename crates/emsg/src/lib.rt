@@ -1,4 +1,4 @@
-#![tactic(auto)]
+#![tactic(auto, unfolding(numbers::specs::Field::when, numbers::specs::Field::field))]
 // The event message box (ISO/IEC 23009-1, 5.10.3.3): two strings that end with a 0, four numbers and a message, which
 // is the rest of the box (A27). Version 0 has the strings first and a time of 4 bytes, version 1 the numbers first and
 // a time of 8.
@@ -6,8 +6,7 @@ ghost use Rattle.std.specs.Prelude.{◌≡◌, ◌≤◌};
 ghost use Rattle.emsg.specs.Emsg.{strings_of, numbers_of, strings_first, numbers_first, emsg_of};
 
 use layout::Field;
-use numbers::{Refusal, U32, U64};
-use strings::Text;
+use numbers::Refusal;
 
 // The time is from the segment's start in version 0, and from the presentation's in version 1.
 #[derive(Clone, Copy)]
@@ -31,26 +30,6 @@ pub struct Places {
     pub end: usize,
 }
 
-#[derive(Clone, Copy)]
-pub enum Found {
-    Is(Emsg, Places),
-    Refused(Refusal),
-}
-
-// Where the 0 of each of two strings stands.
-#[derive(Clone, Copy)]
-pub(crate) enum Strings {
-    Are(usize, usize),
-    Refused(Refusal),
-}
-
-// The timescale, the time, the duration and the id.
-#[derive(Clone, Copy)]
-pub(crate) enum Numbers {
-    Are(u32, u64, u32, u32),
-    Refused(Refusal),
-}
-
 pub const KIND: u32 = 0x656d7367;
 
 pub const ROW: [Field; 8] = [
@@ -64,138 +43,84 @@ pub const ROW: [Field; 8] = [
     Field::Nothing,
 ];
 
-fn strings_at(b: &[u8], at: usize) -> Strings
+fn strings_at(b: &[u8], at: usize) -> Result<(usize, usize), Refusal>
     ensures { result ≡ strings_of b.now at }
 {
-    match strings::text_end(b, at) {
-        Text::Cut => Strings::Refused(Refusal {
-            number: 1,
-            detail: at,
-        }),
-        Text::End(scheme_end) => {
-            let value = scheme_end + 1;
-            match strings::text_end(b, value) {
-                Text::Cut => Strings::Refused(Refusal {
-                    number: 1,
-                    detail: value,
-                }),
-                Text::End(value_end) => Strings::Are(scheme_end, value_end),
-            }
-        }
-    }
+    let scheme_end = strings::text_end(b, at).ok_or(Refusal::Cut(at))?;
+    let value = scheme_end + 1;
+    let value_end = strings::text_end(b, value).ok_or(Refusal::Cut(value))?;
+    Ok((scheme_end, value_end))
 }
 
 // The time has w bytes.
-fn numbers_at(b: &[u8], at: usize, w: usize) -> Numbers
+fn numbers_at(b: &[u8], at: usize, w: usize) -> Result<(u32, u64, u32, u32), Refusal>
     requires { w ≤ 8 }
     ensures { result ≡ numbers_of w b.now at }
 {
-    let U32::Is(timescale) = numbers::u32_at(b, at) else {
-        return Numbers::Refused(Refusal {
-            number: 1,
-            detail: at,
-        });
-    };
-    let U64::Is(time) = numbers::number_at(b, at + 4, w) else {
-        return Numbers::Refused(Refusal {
-            number: 1,
-            detail: at + 4,
-        });
-    };
+    let timescale = numbers::read::<u32>(b, at)?;
+    let time = numbers::number_at(b, at + 4, w)?;
     let next = at + 4 + w;
-    let U32::Is(duration) = numbers::u32_at(b, next) else {
-        return Numbers::Refused(Refusal {
-            number: 1,
-            detail: next,
-        });
-    };
-    let U32::Is(id) = numbers::u32_at(b, next + 4) else {
-        return Numbers::Refused(Refusal {
-            number: 1,
-            detail: next + 4,
-        });
-    };
-    Numbers::Are(timescale, time, duration, id)
+    let duration = numbers::read::<u32>(b, next)?;
+    let id = numbers::read::<u32>(b, next + 4)?;
+    Ok((timescale, time, duration, id))
 }
 
 // Version 0, from behind the flags on.
-fn strings_first(b: &[u8], at: usize, flags: u32) -> Found
+fn strings_first(b: &[u8], at: usize, flags: u32) -> Result<(Emsg, Places), Refusal>
     ensures { result ≡ strings_first b.now at flags }
 {
-    match strings_at(b, at) {
-        Strings::Refused(q) => Found::Refused(q),
-        Strings::Are(scheme_end, value_end) => {
-            let from = value_end + 1;
-            match numbers_at(b, from, 4) {
-                Numbers::Refused(q) => Found::Refused(q),
-                Numbers::Are(timescale, time, duration, id) => {
-                    let emsg = Emsg {
-                        version: 0,
-                        flags: flags,
-                        timescale: timescale,
-                        presentation_time: time,
-                        event_duration: duration,
-                        id: id,
-                    };
-                    let places = Places {
-                        scheme: at,
-                        scheme_end: scheme_end,
-                        value: scheme_end + 1,
-                        value_end: value_end,
-                        message: from + 16,
-                        end: b.len(),
-                    };
-                    Found::Is(emsg, places)
-                }
-            }
-        }
-    }
+    let (scheme_end, value_end) = strings_at(b, at)?;
+    let from = value_end + 1;
+    let (timescale, time, duration, id) = numbers_at(b, from, 4)?;
+    let emsg = Emsg {
+        version: 0,
+        flags,
+        timescale,
+        presentation_time: time,
+        event_duration: duration,
+        id,
+    };
+    let places = Places {
+        scheme: at,
+        scheme_end,
+        value: scheme_end + 1,
+        value_end,
+        message: from + 16,
+        end: b.len(),
+    };
+    Ok((emsg, places))
 }
 
 // Version 1, from behind the flags on.
-fn numbers_first(b: &[u8], at: usize, flags: u32) -> Found
+fn numbers_first(b: &[u8], at: usize, flags: u32) -> Result<(Emsg, Places), Refusal>
     ensures { result ≡ numbers_first b.now at flags }
 {
-    match numbers_at(b, at, 8) {
-        Numbers::Refused(q) => Found::Refused(q),
-        Numbers::Are(timescale, time, duration, id) => {
-            let from = at + 20;
-            match strings_at(b, from) {
-                Strings::Refused(q) => Found::Refused(q),
-                Strings::Are(scheme_end, value_end) => {
-                    let emsg = Emsg {
-                        version: 1,
-                        flags: flags,
-                        timescale: timescale,
-                        presentation_time: time,
-                        event_duration: duration,
-                        id: id,
-                    };
-                    let places = Places {
-                        scheme: from,
-                        scheme_end: scheme_end,
-                        value: scheme_end + 1,
-                        value_end: value_end,
-                        message: value_end + 1,
-                        end: b.len(),
-                    };
-                    Found::Is(emsg, places)
-                }
-            }
-        }
-    }
+    let (timescale, time, duration, id) = numbers_at(b, at, 8)?;
+    let from = at + 20;
+    let (scheme_end, value_end) = strings_at(b, from)?;
+    let emsg = Emsg {
+        version: 1,
+        flags,
+        timescale,
+        presentation_time: time,
+        event_duration: duration,
+        id,
+    };
+    let places = Places {
+        scheme: from,
+        scheme_end,
+        value: scheme_end + 1,
+        value_end,
+        message: value_end + 1,
+        end: b.len(),
+    };
+    Ok((emsg, places))
 }
 
-pub fn read(part: &[u8]) -> Found
+pub fn read(part: &[u8]) -> Result<(Emsg, Places), Refusal>
     ensures { result ≡ emsg_of part.now }
 {
-    let got = short::read::by(part, KIND, ROW);
-    if got.number != 0 {
-        return Found::Refused(Refusal {
-            number: got.number,
-            detail: got.place,
-        });
-    }
+    let got = short::read::by(part, KIND, ROW)?;
     let v = got.values;
     let place = got.place;
     let end = got.end;

@@ -1,4 +1,4 @@
-#![tactic(auto)]
+#![tactic(auto, unfolding(numbers::specs::Field::when, numbers::specs::Field::field))]
 // The writer of the event message box (`emsg`).
 ghost use Rattle.std.specs.Prelude.{◌≡◌, ◌+◌, ◌-◌, ◌^◌, ◌≤◌, ◌<◌, min, length};
 ghost use Rattle.std.proofs.lemmas.List.Edits.{sets};
@@ -9,15 +9,13 @@ ghost use Rattle.emsg.specs.Emsg.{wide, whole, sound, string_bytes, number_bytes
 use boxes::{full, header};
 use emsg::{Emsg, KIND};
 use numbers::Refusal;
-use put::Put;
-use strings::Text;
 
 fn no_zero(text: &[u8]) -> bool
     ensures { result ≡ whole (text_at text.now 0) }
 {
     match strings::text_end(text, 0) {
-        Text::Cut => true,
-        Text::End(_) => false,
+        None => true,
+        Some(_) => false,
     }
 }
 
@@ -62,12 +60,12 @@ fn put_strings(out: &mut [u8], at: usize, scheme: &[u8], value: &[u8]) -> usize
     ensures { (out.new ≡ sets out.old at (string_bytes scheme.now value.now))
         × (result ≡ at + length (string_bytes scheme.now value.now)) }
 {
-    put::part(out, at, scheme);
+    let _ = put::part(out, at, scheme);
     let first = at + scheme.len();
-    put::u8_at(out, first, 0);
-    put::part(out, first + 1, value);
+    let _ = put::write::<u8>(out, first, 0);
+    let _ = put::part(out, first + 1, value);
     let second = first + 1 + value.len();
-    put::u8_at(out, second, 0);
+    let _ = put::write::<u8>(out, second, 0);
     second + 1
 }
 
@@ -76,11 +74,11 @@ fn put_numbers(out: &mut [u8], at: usize, w: usize, emsg: Emsg) -> usize
     requires { (at + 12 + w ≤ length out.old) × (w ≤ 8) × (emsg.presentation_time < 256 ^ w) }
     ensures { (out.new ≡ sets out.old at (number_bytes w emsg)) × (result ≡ at + 12 + w) }
 {
-    put::u32_at(out, at, emsg.timescale);
-    put::number(out, at + 4, w, emsg.presentation_time);
+    let _ = put::write::<u32>(out, at, emsg.timescale);
+    let _ = put::number(out, at + 4, w, emsg.presentation_time);
     let next = at + 4 + w;
-    put::u32_at(out, next, emsg.event_duration);
-    put::u32_at(out, next + 4, emsg.id);
+    let _ = put::write::<u32>(out, next, emsg.event_duration);
+    let _ = put::write::<u32>(out, next + 4, emsg.id);
     next + 8
 }
 
@@ -92,12 +90,12 @@ fn put_content(out: &mut [u8], emsg: Emsg, scheme: &[u8], value: &[u8], message:
     if emsg.version == 0 {
         let strings = put_strings(out, 12, scheme, value);
         let numbers = put_numbers(out, strings, 4, emsg);
-        put::part(out, numbers, message);
+        let _ = put::part(out, numbers, message);
         return;
     }
     let numbers = put_numbers(out, 12, 8, emsg);
     let strings = put_strings(out, numbers, scheme, value);
-    put::part(out, strings, message);
+    let _ = put::part(out, strings, message);
 }
 
 // How many bytes header, version, flags, numbers and both 0 have.
@@ -108,43 +106,34 @@ fn fixed(version: u8) -> usize
 }
 
 // The strings are lent without their 0.
-pub fn write(emsg: Emsg, scheme: &[u8], value: &[u8], message: &[u8], out: &mut [u8]) -> Put
+pub fn write(
+    emsg: Emsg,
+    scheme: &[u8],
+    value: &[u8],
+    message: &[u8],
+    out: &mut [u8],
+) -> Result<usize, Refusal>
     ensures { wrote result out.new ≡ emsg_in emsg scheme.now value.now message.now out.old }
 {
     if !is_sound(emsg, scheme, value) {
-        return Put::Refused(Refusal {
-            number: 13,
-            detail: 0,
-        });
+        return Err(Refusal::Unwritable);
     }
     if 1 < emsg.version {
-        return Put::Refused(Refusal {
-            number: 13,
-            detail: 0,
-        });
+        return Err(Refusal::Unwritable);
     }
     if 0xff_ffff < emsg.flags {
-        return Put::Refused(Refusal {
-            number: 13,
-            detail: 0,
-        });
+        return Err(Refusal::Unwritable);
     }
     let texts = capped(capped(fixed(emsg.version), scheme.len()), value.len());
     let total = capped(texts, message.len());
     if 0xffff_ffff < total {
-        return Put::Refused(Refusal {
-            number: 13,
-            detail: 0,
-        });
+        return Err(Refusal::Unwritable);
     }
     if out.len() < total {
-        return Put::Refused(Refusal {
-            number: 12,
-            detail: total,
-        });
+        return Err(Refusal::TooSmall(total));
     }
-    header::write(out, 0, KIND, total);
-    full::write(out, 8, emsg.version, emsg.flags);
+    let _ = header::write(out, 0, KIND, total);
+    let _ = full::write(out, 8, emsg.version, emsg.flags);
     put_content(out, emsg, scheme, value, message);
-    Put::Done(total)
+    Ok(total)
 }

@@ -1,5 +1,6 @@
 -- A canonical box, read and written, gives its own bytes. Canonical is a box with the shortest lengths and nothing else in
 -- it: its ES_Descriptor has no more bytes than the record and the parts need. Assumes nothing.
+use Rattle.std.specs.Prelude.{Result, Option, Ok, Err, Some, None}
 use mathlib.Core.Path.{◌≡◌, refl, sym, ap, ap₂, subst, ◌∙◌}
 use mathlib.Core.List.{List, [], ◌∷◌, ◌++◌}
 use mathlib.Core.Bool.{Bool, true, false, ◌&&◌}
@@ -11,12 +12,12 @@ use lib.Seq.{take-length, length-take-le}
 use lib.Dec.{eqb, leb}
 use borrow.Author.Tests.{eqb-true, eqb-false, leb-true, lt-ltb}
 use Rattle.numbers.specs.Number.{be}
-use Rattle.numbers.specs.Field.{when, refusal}
+use Rattle.numbers.specs.Field.{when}
+use Rattle.numbers.specs.declared.Refusal.TheVariants as refusal
 use Rattle.numbers.specs.declared.Refusal.{Refusal}
 use Rattle.numbers.proofs.Laws.{Bytes}
 use Rattle.numbers.proofs.Chain.{whole, is_le, by-true, way, field-way}
 use Rattle.put.specs.Put.{wrote}
-use Rattle.put.specs.declared.Put.TheVariants as put
 use Rattle.layout.specs.Rule.{rule_of}
 use Rattle.layout.specs.Read.{read_of}
 use Rattle.layout.specs.Write.{slotted, write_of}
@@ -24,41 +25,32 @@ use Rattle.layout.specs.Canonical.{slots, firsts, most, limit, canonical_of, Can
 use Rattle.rounds.proofs.Boxes.{fields_in, own_read, own-bytes, fits}
 use Rattle.rounds.proofs.Decided.{writes-canonical}
 use Rattle.descriptor.specs.Descriptor.{size_for, head_by, head_of, length_of}
-use Rattle.descriptor.specs.declared.Head.TheVariants as head
-use Rattle.descriptor.specs.declared.Length.{Length}
-use Rattle.descriptor.specs.declared.Length.TheVariants as length-is
 use Rattle.descriptor.proofs.Laws.{headed}
 use Rattle.descriptors.specs.Descriptors.{seek_of, span, descriptor_bytes}
-use Rattle.descriptors.specs.declared.Sought.{Sought}
-use Rattle.descriptors.specs.declared.Sought.TheVariants as sought
 use Rattle.descriptors.proofs.Laws as walk
 use Rattle.descriptors.proofs.Puts.{length-descriptor}
 use Rattle.descriptors.proofs.Own.{length-span, span_none, span-join, span-end, span-take, bytes_take, stands, content-small, content-long, reaches, descriptor-own}
 use Rattle.decoderconfig.specs.DecoderConfig.{config_of, config_bytes, info_bytes}
 use Rattle.decoderconfig.specs.DecoderConfig as config
 use Rattle.decoderconfig.specs.declared.Config.{Config}
-use Rattle.decoderconfig.specs.declared.Found as config-found
-use Rattle.decoderconfig.specs.declared.Found.TheVariants as config-is
 use Rattle.decoderconfig.proofs.Puts.{length-config}
 use Rattle.decoderconfig.proofs.ConfigOwn.{config-own}
 use Rattle.esfields.specs.EsFields.{wide, fields_of}
 use Rattle.esfields.specs.EsFields as es
 use Rattle.esfields.specs.declared.Stream.{Stream}
-use Rattle.esfields.specs.declared.Found as fields-found
-use Rattle.esfields.specs.declared.Found.TheVariants as fields-is
 use Rattle.esfields.proofs.Puts.{length_fields}
 use Rattle.esfields.proofs.FieldsOwn.{fields-own}
 use Rattle.esds.specs.Esds.{kind, fields, behind, last_of, after_config, configured, first_of, tail_of, esds, places, with_tail, with_fields, content_of, lengthed, stream_of, full_of, esds_of, span_of, url_of, info_of, sl_of, decoder_bytes, sl_bytes, content_bytes, decoder_sound, sl_sound, sound, esds_in}
 use Rattle.esds.specs.declared.Esds.{Esds}
 use Rattle.esds.specs.declared.Places.{Places}
-use Rattle.esds.specs.declared.Decoder.{Decoder}
-use Rattle.esds.specs.declared.Decoder.TheVariants as decoder
-use Rattle.esds.specs.declared.Found.TheVariants.{Is, Refused}
 use Rattle.esds.specs.declared.Parts.{Parts}
-use Rattle.esds.specs.declared.Tail.{Tail}
-use Rattle.esds.specs.declared.Tail.TheVariants as tail
 use Rattle.esds.proofs.Sounds.{length-content}
 use Rattle.esds.proofs.EsdsLaws.{esds-back}
+use Rattle.descriptor.specs.declared.Length.{Length}
+use Rattle.descriptors.specs.declared.Sought.{Sought}
+use Rattle.descriptor.specs.Descriptor.{head_record}
+use Rattle.descriptor.specs.Descriptor.{length_record}
+use Rattle.descriptors.specs.Descriptors.{sought_record}
 
 -- HOW MANY BYTES ARE NEEDED, of parts with so many bytes
 
@@ -66,9 +58,9 @@ use Rattle.esds.proofs.EsdsLaws.{esds-back}
 abbrev pub descriptor_needs : ℕ → ℕ
 descriptor_needs n = size_for n + 1 + n
 
-abbrev pub decoder_needs : Decoder → ℕ → ℕ
-decoder_needs decoder.Absent info = 0
-decoder_needs (decoder.Is c) info = descriptor_needs (13 + when c.has_info (descriptor_needs info) 0)
+abbrev pub decoder_needs : Option Config → ℕ → ℕ
+decoder_needs None info = 0
+decoder_needs (Some c) info = descriptor_needs (13 + when c.has_info (descriptor_needs info) 0)
 
 abbrev pub fields_need : Stream → ℕ → ℕ
 fields_need m url = 3 + wide m.flags 0x80 2 + wide m.flags 0x40 1 + url + wide m.flags 0x20 2
@@ -89,9 +81,9 @@ module _ (m : Esds) (url info sl : List ℕ) where
   info-needs true = sym (length-descriptor 5 info)
   info-needs false = refl
 
-  decoder-needs : (d : Decoder) → decoder_needs d (length info) ≡ length (decoder_bytes d info)
-  decoder-needs decoder.Absent = refl
-  decoder-needs (decoder.Is c) =
+  decoder-needs : (d : Option Config) → decoder_needs d (length info) ≡ length (decoder_bytes d info)
+  decoder-needs None = refl
+  decoder-needs (Some c) =
       ap descriptor_needs (ap (λ n. 13 + n) (info-needs c.has_info) ∙ sym (length-config c info)) ∙ sym (length-descriptor 4 (config_bytes c info))
 
   pub written-needs : needs m (length url) (length info) (length sl) ≡ length (descriptor_bytes 3 (content_bytes m url info sl))
@@ -120,7 +112,7 @@ module _ (s : List ℕ) (at : ℕ) where
         ok = refl;
       }
 
-  last_some : Bytes s → (one t p f e : ℕ) → seek_of s at one 6 ≡ sought.Is t p f e → t ≡ 6 → Last true s at f e
+  last_some : Bytes s → (one t p f e : ℕ) → seek_of s at one 6 ≡ Ok (Some (sought_record t p f e)) → t ≡ 6 → Last true s at f e
   unfolding when
   last_some b one t p f e q six =
       let h = walk.sought s one 6 t p f e at q in
@@ -147,17 +139,17 @@ module _ (s : List ℕ) (at : ℕ) where
 
 -- THE DECODERCONFIG, or nothing, up to a place
 
-record First (d : Decoder) (s : List ℕ) (at to i j : ℕ) : Type 0 where
+record First (d : Option Config) (s : List ℕ) (at to i j : ℕ) : Type 0 where
   inside : (i ≤ j) × (j ≤ length s)
   room : at + length (decoder_bytes d (span s i j)) ≤ to
   own : at + length (decoder_bytes d (span s i j)) ≡ to → span s at to ≡ decoder_bytes d (span s i j)
   ok : decoder_sound d (span s i j) ≡ true
 
 module _ (s : List ℕ) (at : ℕ) where
-  first-none : First decoder.Absent s at at 0 0
+  first-none : First None s at at 0 0
   first-none = record { inside = (omega arith, omega arith); room = omega arith; own = λ e. span_none s at; ok = refl }
 
-  first_some : Bytes s → (t p f e : ℕ) → seek_of s at 4 6 ≡ sought.Is t p f e → t ≡ 4 → (c : Config) (i j : ℕ) → config_of (take e s) f ≡ config-is.Is c i j → First (decoder.Is c) s at e i j
+  first_some : Bytes s → (t p f e : ℕ) → seek_of s at 4 6 ≡ Ok (Some (sought_record t p f e)) → t ≡ 4 → (c : Config) (i j : ℕ) → config_of (take e s) f ≡ Ok (c, i, j) → First (Some c) s at e i j
   first_some b t p f e q four c i j r =
       let h = walk.sought s 4 6 t p f e at q in
       let k = stands s 4 6 t p f e at q in
@@ -187,57 +179,63 @@ module _ (s : List ℕ) (at : ℕ) where
       both : (a b : Bool) → a ≡ true → b ≡ true → a && b ≡ true
       both a b p q = simp (p, q)
 
-  first-moved : (d c : Decoder) (to f e i j : ℕ) → d ≡ c → f ≡ i → e ≡ j → First d s at to f e → First c s at to i j
+  first-moved : (d c : Option Config) (to f e i j : ℕ) → d ≡ c → f ≡ i → e ≡ j → First d s at to f e → First c s at to i j
   first-moved d c to f e i j ed ef ee w =
-      subst (λ (d : Decoder). First d s at to i j) ed (subst (λ (f : ℕ). First d s at to f j) ef (subst (λ (e : ℕ). First d s at to f e) ee w))
+      subst (λ (d : Option Config). First d s at to i j) ed (subst (λ (f : ℕ). First d s at to f j) ef (subst (λ (e : ℕ). First d s at to f e) ee w))
 
 -- BEHIND THE FIELDS
 
 -- both, the one behind the other
-record Rest (d : Decoder) (has : Bool) (o : Parts) (s : List ℕ) (at : ℕ) : Type 0 where
+record Rest (d : Option Config) (has : Bool) (o : Parts) (s : List ℕ) (at : ℕ) : Type 0 where
   middle : ℕ
   first : First d s at middle o.info o.info_end
   last : Last has s middle o.sl o.sl_end
 
-module _ (s : List ℕ) (b : Bytes s) (d : Decoder) (has : Bool) (o : Parts) where
-  refused : {A : Type 0} (q : Refusal) → tail.Refused q ≡ tail.Is d has o → A
-  refused q e = let z : ◌≡◌ {A = ℕ} 0 1 = cc in absurd (omega arith)
+module _ (s : List ℕ) (b : Bytes s) (d : Option Config) (has : Bool) (o : Parts) where
+  refused : {A : Type 0} (q : Refusal) → ◌≡◌ {A = Result (Option Config × Bool × Parts) Refusal} (Err q) (Ok (d, has, o)) → A
+  refused q e = let z : ◌≡◌ {A = ℕ} 0 1 = cc e in absurd (omega arith)
 
-  moved : (c : Decoder) (h : Bool) (i j f e at to : ℕ) → behind c h i j f e ≡ tail.Is d has o → First c s at to i j → Last h s to f e → Rest d has o s at
+  moved : (c : Option Config) (h : Bool) (i j f e at to : ℕ) → behind c h i j f e ≡ Ok (d, has, o) → First c s at to i j → Last h s to f e → Rest d has o s at
   moved c h i j f e at to q w v =
-      let k1 : c ≡ d = cc in
-      let k2 : h ≡ has = cc in
-      let k3 : i ≡ o.info = cc in
-      let k4 : j ≡ o.info_end = cc in
-      let k5 : f ≡ o.sl = cc in
-      let k6 : e ≡ o.sl_end = cc in
+      let k : ◌≡◌ {A = Option Config × Bool × Parts} (c, h, record { info = i; info_end = j; sl = f; sl_end = e }) (d, has, o) = cc q in
+      let k1 : c ≡ d = ap (λ (t : Option Config × Bool × Parts). t.0) k in
+      let k2 : h ≡ has = ap (λ (t : Option Config × Bool × Parts). t.1) k in
+      let k3 : i ≡ o.info = ap (λ (t : Option Config × Bool × Parts). (t.2).info) k in
+      let k4 : j ≡ o.info_end = ap (λ (t : Option Config × Bool × Parts). (t.2).info_end) k in
+      let k5 : f ≡ o.sl = ap (λ (t : Option Config × Bool × Parts). (t.2).sl) k in
+      let k6 : e ≡ o.sl_end = ap (λ (t : Option Config × Bool × Parts). (t.2).sl_end) k in
       record { middle = to; first = first-moved s at c d to i j o.info o.info_end k1 k3 k4 w; last = last-moved s to h has f e o.sl o.sl_end k2 k5 k6 v }
 
-  after-own : (at to : ℕ) (c : Config) (i j : ℕ) → to ≤ length s → First (decoder.Is c) s at to i j → after_config s to c i j ≡ tail.Is d has o → Rest d has o s at
+  after-own : (at to : ℕ) (c : Config) (i j : ℕ) → to ≤ length s → First (Some c) s at to i j → after_config s to c i j ≡ Ok (d, has, o) → Rest d has o s at
   after-own at to c i j l w h = by (seek_of s to 6 6) refl h
     where
-      by : (x : Sought) → seek_of s to 6 6 ≡ x → last_of c i j x ≡ tail.Is d has o → Rest d has o s at
-      by sought.End e h = moved (decoder.Is c) false i j 0 0 at to h w (last_none s to l)
-      by (sought.Is t p f k) e h =
-          moved (decoder.Is c) true i j f k at to h w (last_some s to b 6 t p f k e (⊎_elim (λ y. y) (λ y. y) (stands s 6 6 t p f k to e).1))
-      by (sought.Refused q) e h = refused q h
+      by : (x : Result (Option Sought) Refusal) → seek_of s to 6 6 ≡ x → last_of c i j x ≡ Ok (d, has, o) → Rest d has o s at
+      by (Ok None) e h = moved (Some c) false i j 0 0 at to h w (last_none s to l)
+      by (Ok (Some r)) e h =
+          moved (Some c) true i j r.from r.to at to h w
+          (last_some s to b 6 r.tag r.at r.from r.to e (⊎_elim (λ y. y) (λ y. y) (stands s 6 6 r.tag r.at r.from r.to to e).1))
+      by (Err q) e h = refused q h
 
-  rest-own : (at : ℕ) → at ≤ length s → tail_of s at ≡ tail.Is d has o → Rest d has o s at
+  rest-own : (at : ℕ) → at ≤ length s → tail_of s at ≡ Ok (d, has, o) → Rest d has o s at
   rest-own at l h = by (seek_of s at 4 6) refl h
     where
       four : (t : ℕ) → (t ≡ 6 → ⊥) → (t ≡ 4) ⊎ (t ≡ 6) → t ≡ 4
       four t n k = ⊎_elim (λ y. y) (λ y. absurd (n y)) k
 
-      on : (t p f g : ℕ) (y : config-found.Found) → seek_of s at 4 6 ≡ sought.Is t p f g → t ≡ 4 → config_of (take g s) f ≡ y → configured s g y ≡ tail.Is d has o → Rest d has o s at
-      on t p f g (config-is.Refused q) e n r h = refused q h
-      on t p f g (config-is.Is c i j) e n r h =
+      on : (t p f g : ℕ) (y : Result (Config × ℕ × ℕ) Refusal) → seek_of s at 4 6 ≡ Ok (Some (sought_record t p f g)) → t ≡ 4 → config_of (take g s) f ≡ y → configured s g y ≡ Ok (d, has, o) → Rest d has o s at
+      on t p f g (Err q) e n r h = refused q h
+      on t p f g (Ok (c, i, j)) e n r h =
           after-own at g c i j (headed s p t f g (walk.sought s 4 6 t p f g at e)).inside (first_some s at b t p f g e n c i j r) h
 
-      by : (x : Sought) → seek_of s at 4 6 ≡ x → first_of s x ≡ tail.Is d has o → Rest d has o s at
-      by sought.End e h = moved decoder.Absent false 0 0 0 0 at at h (first-none s at) (last_none s at l)
-      by (sought.Refused q) e h = refused q h
-      by (sought.Is t p f g) e h =
-          ⊎_elim (λ y. moved decoder.Absent true 0 0 f g at at y.1 (first-none s at) (last_some s at b 4 t p f g e (eqb-true t 6 y.0)))
+      by : (x : Result (Option Sought) Refusal) → seek_of s at 4 6 ≡ x → first_of s x ≡ Ok (d, has, o) → Rest d has o s at
+      by (Ok None) e h = moved None false 0 0 0 0 at at h (first-none s at) (last_none s at l)
+      by (Err q) e h = refused q h
+      by (Ok (Some r)) e h =
+          let t = r.tag in
+          let p = r.at in
+          let f = r.from in
+          let g = r.to in
+          ⊎_elim (λ y. moved None true 0 0 f g at at y.1 (first-none s at) (last_some s at b 4 t p f g e (eqb-true t 6 y.0)))
           (λ y. on t p f g (config_of (take g s) f) e (four t (eqb-false t 6 y.0) (stands s 4 6 t p f g at e).1) refl y.1)
           (way (eqb t 6) _ _ _ h)
 
@@ -264,7 +262,7 @@ record Content (m : Esds) (p : Places) (s : List ℕ) (at fl : ℕ) : Type 0 whe
   sl-ok : sl_sound m.has_sl (sl-of p s) ≡ true
 
 module _ (s : List ℕ) (b : Bytes s) (at fl : ℕ) where
-  as_read : (x : Stream) (u v end : ℕ) (d : Decoder) (has : Bool) (o : Parts) → fields_of s at ≡ fields-is.Is x u v end → tail_of s end ≡ tail.Is d has o →
+  as_read : (x : Stream) (u v end : ℕ) (d : Option Config) (has : Bool) (o : Parts) → fields_of s at ≡ Ok (x, u, v, end) → tail_of s end ≡ Ok (d, has, o) →
       Content (esds fl x d has) (places u v o) s at fl
   as_read x u v end d has o e g =
       let f = fields-own s at b x u v end e in
@@ -294,19 +292,20 @@ module _ (s : List ℕ) (b : Bytes s) (at fl : ℕ) where
         sl-ok = w2.ok;
       }
 
-  content-own : (m : Esds) (p : Places) → content_of s at fl ≡ Is m p → Content m p s at fl
+  content-own : (m : Esds) (p : Places) → content_of s at fl ≡ Ok (m, p) → Content m p s at fl
   content-own m p h = by (fields_of s at) refl h
     where
-      on : (x : Stream) (u v end : ℕ) (y : Tail) → fields_of s at ≡ fields-is.Is x u v end → tail_of s end ≡ y → with_tail fl x u v y ≡ Is m p → Content m p s at fl
-      on x u v end (tail.Refused q) e g h = let z : ◌≡◌ {A = ℕ} 0 1 = cc in absurd (omega arith)
-      on x u v end (tail.Is d has o) e g h =
-          let em : esds fl x d has ≡ m = cc in
-          let ep : places u v o ≡ p = cc in
+      on : (x : Stream) (u v end : ℕ) (y : Result ((Option Config) × Bool × Parts) Refusal) → fields_of s at ≡ Ok (x, u, v, end) → tail_of s end ≡ y → with_tail fl x u v y ≡ Ok (m, p) → Content m p s at fl
+      on x u v end (Err q) e g h = let z : ◌≡◌ {A = ℕ} 0 1 = cc h in absurd (omega arith)
+      on x u v end (Ok (d, has, o)) e g h =
+          let r : ◌≡◌ {A = Esds × Places} (esds fl x d has, places u v o) (m, p) = cc h in
+          let em : esds fl x d has ≡ m = ap (λ (t : Esds × Places). t.0) r in
+          let ep : places u v o ≡ p = ap (λ (t : Esds × Places). t.1) r in
           subst (λ (m : Esds). Content m p s at fl) em (subst (λ (p : Places). Content (esds fl x d has) p s at fl) ep (as_read x u v end d has o e g))
 
-      by : (x : fields-found.Found) → fields_of s at ≡ x → with_fields s fl x ≡ Is m p → Content m p s at fl
-      by (fields-is.Refused q) e h = let z : ◌≡◌ {A = ℕ} 0 1 = cc in absurd (omega arith)
-      by (fields-is.Is x u v end) e h = on x u v end (tail_of s end) e refl h
+      by : (x : Result (Stream × ℕ × ℕ × ℕ) Refusal) → fields_of s at ≡ x → with_fields s fl x ≡ Ok (m, p) → Content m p s at fl
+      by (Err q) e h = let z : ◌≡◌ {A = ℕ} 0 1 = cc h in absurd (omega arith)
+      by (Ok (x, u, v, end)) e h = on x u v end (tail_of s end) e refl h
 
 -- THE STREAM'S DESCRIPTOR
 
@@ -320,13 +319,13 @@ all_true : (a b c d : Bool) → a ≡ true → b ≡ true → c ≡ true → d �
 all_true a b c d p q r s = simp (p, q, r, s)
 
 module _ (b : List ℕ) (y : Bytes b) (at fl : ℕ) (m : Esds) (p : Places) where
-  head-there : (n from : ℕ) → at + 1 ≤ length b → be 1 b at ≡ 3 → length_of b (at + 1) ≡ length-is.Is n from → from + n ≤ length b → head_of b at ≡ head.Is 3 from (from + n)
+  head-there : (n from : ℕ) → at + 1 ≤ length b → be 1 b at ≡ 3 → length_of b (at + 1) ≡ Ok (length_record n from) → from + n ≤ length b → head_of b at ≡ Ok (head_record 3 from (from + n))
   unfolding head_by
   head-there n from h t v l =
-      sym (whole 1 b at head.Refused _ _ 3 h (sym t)
-      (is_le (head.Is 3 from (from + n)) (head.Refused (refusal 1 at)) _ (from + n) (length b) l refl ∙ ap (head_by b at 3) (sym v)))
+      sym (whole 1 b at Err _ _ 3 h (sym t)
+      (is_le (Ok (head_record 3 from (from + n))) (Err (refusal.Cut at)) _ (from + n) (length b) l refl ∙ ap (head_by b at 3) (sym v)))
 
-  content-told : (n from : ℕ) → head_of b at ≡ head.Is 3 from (from + n) → content_of (take (from + n) b) from fl ≡ Is m p → Own m p b at fl
+  content-told : (n from : ℕ) → head_of b at ≡ Ok (head_record 3 from (from + n)) → content_of (take (from + n) b) from fl ≡ Ok (m, p) → Own m p b at fl
   content-told n from h q =
       let e = from + n in
       let g = headed b at 3 from e h in
@@ -358,14 +357,16 @@ module _ (b : List ℕ) (y : Bytes b) (at fl : ℕ) (m : Esds) (p : Places) wher
             (lt-ltb (length x) (128 ^ 4) (content-small b at at 3 from e le h x l));
       }
 
-  stream-own : stream_of b at fl ≡ Is m p → Own m p b at fl
+  stream-own : stream_of b at fl ≡ Ok (m, p) → Own m p b at fl
   stream-own h =
-      ⊎_elim (λ y. by (be 1 b at) (length_of b (at + 1)) refl refl y.0 y.1) (λ y. let z : ◌≡◌ {A = ℕ} 0 1 = cc y.1 in absurd (omega arith)) (field-way 1 b at Refused _ _ h)
+      ⊎_elim (λ y. by (be 1 b at) (length_of b (at + 1)) refl refl y.0 y.1) (λ y. let z : ◌≡◌ {A = ℕ} 0 1 = cc y.1 in absurd (omega arith)) (field-way 1 b at Err _ _ h)
     where
-      by : (tag : ℕ) (l : Length) → be 1 b at ≡ tag → length_of b (at + 1) ≡ l → at + 1 ≤ length b → lengthed b at fl tag l ≡ Is m p → Own m p b at fl
-      by tag (length-is.Refused q) t v h f =
+      by : (tag : ℕ) (l : Result Length Refusal) → be 1 b at ≡ tag → length_of b (at + 1) ≡ l → at + 1 ≤ length b → lengthed b at fl tag l ≡ Ok (m, p) → Own m p b at fl
+      by tag (Err q) t v h f =
           ⊎_elim (λ y. let z : ◌≡◌ {A = ℕ} 0 1 = cc y.1 in absurd (omega arith)) (λ y. let z : ◌≡◌ {A = ℕ} 0 1 = cc y.1 in absurd (omega arith)) (way (eqb tag 3) _ _ _ f)
-      by tag (length-is.Is n from) t v h f =
+      by tag (Ok l) t v h f =
+          let n = l.value in
+          let from = l.after in
           ⊎_elim
           (λ y. ⊎_elim (λ w. content-told n from (head-there n from h (t ∙ eqb-true tag 3 w.0) v (leb-true (from + n) (length b) y.0)) w.1)
           (λ w. let z : ◌≡◌ {A = ℕ} 0 1 = cc w.1 in absurd (omega arith))
@@ -377,8 +378,8 @@ module _ (b : List ℕ) (y : Bytes b) (at fl : ℕ) (m : Esds) (p : Places) wher
 
 -- so many bytes follow version and flags as the record and its parts need, with every length in its shortest form: then
 -- nothing else has room
-pub esds-own : (b : List ℕ) (m : Esds) (p : Places) → esds_of b ≡ Is m p → Canonical kind fields (needs m (length (url_of b)) (length (info_of b)) (length (sl_of b))) b → (buf : List ℕ) → length b ≤ length buf →
-    esds_in m (url_of b) (info_of b) (sl_of b) buf ≡ wrote (put.Done (length b)) (b ++ drop (length b) buf)
+pub esds-own : (b : List ℕ) (m : Esds) (p : Places) → esds_of b ≡ Ok (m, p) → Canonical kind fields (needs m (length (url_of b)) (length (info_of b)) (length (sl_of b))) b → (buf : List ℕ) → length b ≤ length buf →
+    esds_in m (url_of b) (info_of b) (sl_of b) buf ≡ wrote (Ok (length b)) (b ++ drop (length b) buf)
 unfolding slots firsts most limit rule_of when
 esds-own b m p h c buf hl =
     let url = url-of p b in
@@ -389,32 +390,30 @@ esds-own b m p h c buf hl =
     let esl : sl_of b ≡ sl = ap (span_of (λ p. p.sl) (λ p. p.sl_end) b) h in
     let k = needs m (length (url_of b)) (length (info_of b)) (length (sl_of b)) in
     let at = c.end in
-    let g = read_of kind fields b in
-    let r : g ≡ fields_in (length b) at c.values = own_read kind fields k b c in
-    let pl : g.place ≡ at = ap (λ r. r.place) r in
+    let g = fields_in (length b) at c.values in
+    let r : read_of kind fields b ≡ Ok g = own_read kind fields k b c in
     let fl = get_or g.values 1 0 in
-    let q : stream_of b at fl ≡ Is m p =
-    ap (λ s. stream_of s at fl) (sym (take-length b)) ∙ ap (λ g. stream_of (take (length b) b) at (get_or g.values 1 0)) r ∙ sym (ap (full_of b) r) ∙ h in
+    let q : stream_of b at fl ≡ Ok (m, p) = ap (λ s. stream_of s at fl) (sym (take-length b)) ∙ sym (ap (full_of b) r) ∙ h in
     let o = stream-own b c.byte at fl m p q in
     let x = descriptor_bytes 3 (content_bytes m url i sl) in
     let n : k ≡ length x =
     ap₂ (λ (u i : List ℕ). needs m (length u) (length i) (length (sl_of b))) eu ei ∙ ap (λ s. needs m (length url) (length i) (length s)) esl ∙ written-needs m url i sl in
-    let tail : x ≡ drop g.place b = o.own (omega (arith, n, c.rest)) ∙ ap (λ n. drop n b) (sym pl) in
-    let z : get_or g.values 0 0 ≡ 0 = omega (arith, fits kind fields b 0 0 g refl refl) in
+    let tail : x ≡ drop at b = o.own (omega (arith, n, c.rest)) in
+    let z : get_or g.values 0 0 ≡ 0 = omega (arith, fits kind fields b 0 0 g r refl) in
     let same : 0 ∷ m.flags ∷ [] ≡ get_or g.values 0 0 ∷ fl ∷ [] = ap₂ (λ (i j : ℕ). i ∷ j ∷ []) (sym z) o.flags in
     ap₂ (λ (u i : List ℕ). esds_in m u i (sl_of b) buf) eu ei ∙ ap (λ s. esds_in m url i s buf) esl
     ∙ sym (by-true _ _ _ (sound m url i sl) o.ok
-    (sym (ap (λ l. write_of kind fields (slotted (0 ∷ m.flags ∷ [])) l buf) tail ∙ own-bytes kind fields k b c (slotted (0 ∷ m.flags ∷ [])) buf (omega arith) same hl)))
+    (sym (ap (λ l. write_of kind fields (slotted (0 ∷ m.flags ∷ [])) l buf) tail ∙ own-bytes kind fields k b c g r (slotted (0 ∷ m.flags ∷ [])) buf (omega arith) same hl)))
 
 -- whatever is written is canonical
-pub esds-writes-canonical : (m : Esds) (url info sl buf : List ℕ) (n : ℕ) (out : List ℕ) → esds_in m url info sl buf ≡ wrote (put.Done n) out →
+pub esds-writes-canonical : (m : Esds) (url info sl buf : List ℕ) (n : ℕ) (out : List ℕ) → esds_in m url info sl buf ≡ wrote (Ok n) out →
     canonical_of kind fields (needs m (length (url_of (take n out))) (length (info_of (take n out))) (length (sl_of (take n out)))) (take n out) ≡ true
 esds-writes-canonical m url info sl buf n out h = ⊎_elim (λ y. written y.1) (λ y. refuse y.1) (way (sound m url info sl) _ _ _ h)
   where
-    refuse : {A : Type 0} → wrote (put.Refused (refusal 13 0)) buf ≡ wrote (put.Done n) out → A
+    refuse : {A : Type 0} → wrote (Err refusal.Unwritable) buf ≡ wrote (Ok n) out → A
     refuse q = let z : ◌≡◌ {A = ℕ} 0 1 = cc in absurd (omega arith)
 
-    written : write_of kind fields (slotted (0 ∷ m.flags ∷ [])) (descriptor_bytes 3 (content_bytes m url info sl)) buf ≡ wrote (put.Done n) out →
+    written : write_of kind fields (slotted (0 ∷ m.flags ∷ [])) (descriptor_bytes 3 (content_bytes m url info sl)) buf ≡ wrote (Ok n) out →
         canonical_of kind fields (needs m (length (url_of (take n out))) (length (info_of (take n out))) (length (sl_of (take n out)))) (take n out) ≡ true
     written w =
         let b = take n out in

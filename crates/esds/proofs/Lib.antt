@@ -1,4 +1,3 @@
-pub mod Cases
 pub mod Contents
 pub mod Sounds
 pub mod EsdsLaws

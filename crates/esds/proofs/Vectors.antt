@@ -1,14 +1,15 @@
 -- Worked examples of the definitions, computed. Assumes nothing.
+use Rattle.std.specs.Prelude.{Ok, Err, Some, None}
 use mathlib.Core.Path.{◌≡◌, refl}
 use mathlib.Core.List.{List, [], ◌∷◌, ◌++◌}
 use mathlib.Core.Bool.{true, false}
 use Prim.Native.Nat.{ℕ}
 use lib.ListN.{length, replicate}
 use Rattle.numbers.specs.Number.{be, bytes}
-use Rattle.numbers.specs.Field.{refusal, field, when}
+use Rattle.numbers.specs.Field.{field, when}
+use Rattle.numbers.specs.declared.Refusal.TheVariants as refusal
 use Rattle.layout.specs.Rule.{rule_of}
 use Rattle.put.specs.Put.{wrote}
-use Rattle.put.specs.declared.Put.TheVariants as put
 use Rattle.layout.specs.Read.{one, decode}
 use Rattle.layout.specs.Write.{lay, encode}
 use Rattle.layout.specs.Canonical.{standard, exact, canonical_of}
@@ -19,10 +20,8 @@ use Rattle.descriptors.specs.Descriptors.{seek_from}
 use Rattle.decoderconfig.specs.DecoderConfig.{config}
 use Rattle.esfields.specs.EsFields.{stream}
 use Rattle.esds.specs.Esds.{kind, fields, esds, esds_of, url_of, info_of, sl_of, esds_in}
-use Rattle.esds.specs.declared.Decoder.TheVariants as decoder
 use Rattle.esds.specs.declared.Esds.{Esds}
 use Rattle.esds.specs.declared.Places.{Places}
-use Rattle.esds.specs.declared.Found.TheVariants.{Is, Refused}
 use Rattle.esds.proofs.EsdsOwn.{needs}
 
 abbrev places : ℕ → ℕ → ℕ → ℕ → ℕ → ℕ → Places
@@ -45,7 +44,7 @@ theirs-size : length theirs ≡ 39
 unfolding be bytes field when rule_of one decode length_from head_by seek_from audio.bit_field audio.bits_of
 theirs-size = refl
 
-theirs-read : esds_of theirs ≡ Is (esds 0 (stream 1 0 0 0) (decoder.Is (config 0x40 0x15 0 128000 128000 true)) true) (places 17 17 34 36 38 38)
+theirs-read : esds_of theirs ≡ Ok (esds 0 (stream 1 0 0 0) (Some (config 0x40 0x15 0 128000 128000 true)) true, places 17 17 34 36 38 38)
 unfolding be bytes field when rule_of one decode length_from head_by seek_from audio.bit_field audio.bits_of
 theirs-read = refl
 
@@ -57,7 +56,7 @@ theirs-sl : sl_of theirs ≡ []
 unfolding be bytes field when rule_of one decode length_from head_by seek_from audio.bit_field audio.bits_of
 theirs-sl = refl
 
-usual-read : esds_of (usual ++ (7 ∷ [])) ≡ Is (esds 0 (stream 2 0 0 0) (decoder.Is (config 0x40 0x15 0 128000 128000 true)) true) (places 20 20 43 45 50 51)
+usual-read : esds_of (usual ++ (7 ∷ [])) ≡ Ok (esds 0 (stream 2 0 0 0) (Some (config 0x40 0x15 0 128000 128000 true)) true, places 20 20 43 45 50 51)
 unfolding be bytes field when rule_of one decode length_from head_by seek_from audio.bit_field audio.bits_of
 usual-read = refl
 
@@ -74,7 +73,7 @@ unfolding be bytes field when rule_of one decode length_from head_by seek_from a
 usual-url = refl
 
 -- a URL, which is skipped; no DecoderConfig
-located : esds_of (box 0x65736473 0 0 (3 ∷ 9 ∷ 0 ∷ 1 ∷ 0x40 ∷ 2 ∷ 0x61 ∷ 0x62 ∷ 6 ∷ 1 ∷ 2 ∷ [])) ≡ Is (esds 0 (stream 1 0x40 0 0) decoder.Absent true) (places 18 20 0 0 22 23)
+located : esds_of (box 0x65736473 0 0 (3 ∷ 9 ∷ 0 ∷ 1 ∷ 0x40 ∷ 2 ∷ 0x61 ∷ 0x62 ∷ 6 ∷ 1 ∷ 2 ∷ [])) ≡ Ok (esds 0 (stream 1 0x40 0 0) None true, places 18 20 0 0 22 23)
 unfolding be bytes field when rule_of one decode length_from head_by seek_from audio.bit_field audio.bits_of
 located = refl
 
@@ -83,70 +82,70 @@ unfolding be bytes field when rule_of one decode length_from head_by seek_from a
 located-url = refl
 
 -- fields alone
-bare : esds_of (box 0x65736473 0 7 (3 ∷ 3 ∷ 0 ∷ 1 ∷ 0 ∷ [])) ≡ Is (esds 7 (stream 1 0 0 0) decoder.Absent false) (places 17 17 0 0 0 0)
+bare : esds_of (box 0x65736473 0 7 (3 ∷ 3 ∷ 0 ∷ 1 ∷ 0 ∷ [])) ≡ Ok (esds 7 (stream 1 0 0 0) None false, places 17 17 0 0 0 0)
 unfolding be bytes field when rule_of one decode length_from head_by seek_from audio.bit_field audio.bits_of
 bare = refl
 
 -- a descriptor of another tag is skipped
-unknown : esds_of (box 0x65736473 0 0 (3 ∷ 8 ∷ 0 ∷ 1 ∷ 0 ∷ 9 ∷ 0 ∷ 6 ∷ 1 ∷ 2 ∷ [])) ≡ Is (esds 0 (stream 1 0 0 0) decoder.Absent true) (places 17 17 0 0 21 22)
+unknown : esds_of (box 0x65736473 0 0 (3 ∷ 8 ∷ 0 ∷ 1 ∷ 0 ∷ 9 ∷ 0 ∷ 6 ∷ 1 ∷ 2 ∷ [])) ≡ Ok (esds 0 (stream 1 0 0 0) None true, places 17 17 0 0 21 22)
 unfolding be bytes field when rule_of one decode length_from head_by seek_from audio.bit_field audio.bits_of
 unknown = refl
 
 -- what stands behind the stream's descriptor is skipped
-behind : esds_of (box 0x65736473 0 0 (3 ∷ 3 ∷ 0 ∷ 1 ∷ 0 ∷ 4 ∷ [])) ≡ Is (esds 0 (stream 1 0 0 0) decoder.Absent false) (places 17 17 0 0 0 0)
+behind : esds_of (box 0x65736473 0 0 (3 ∷ 3 ∷ 0 ∷ 1 ∷ 0 ∷ 4 ∷ [])) ≡ Ok (esds 0 (stream 1 0 0 0) None false, places 17 17 0 0 0 0)
 unfolding be bytes field when rule_of one decode length_from head_by seek_from audio.bit_field audio.bits_of
 behind = refl
 
 -- REFUSALS
-version-1 : esds_of (box 0x65736473 1 0 (3 ∷ 3 ∷ 0 ∷ 1 ∷ 0 ∷ [])) ≡ Refused (refusal 7 8)
+version-1 : esds_of (box 0x65736473 1 0 (3 ∷ 3 ∷ 0 ∷ 1 ∷ 0 ∷ [])) ≡ Err (refusal.Version 8)
 unfolding be bytes field when rule_of one decode length_from head_by seek_from audio.bit_field audio.bits_of
 version-1 = refl
 
-other-type : esds_of (box 0x65736474 0 0 (3 ∷ 3 ∷ 0 ∷ 1 ∷ 0 ∷ [])) ≡ Refused (refusal 8 4)
+other-type : esds_of (box 0x65736474 0 0 (3 ∷ 3 ∷ 0 ∷ 1 ∷ 0 ∷ [])) ≡ Err (refusal.Value 4)
 unfolding be bytes field when rule_of one decode length_from head_by seek_from audio.bit_field audio.bits_of
 other-type = refl
 
-no_stream : esds_of (box 0x65736473 0 0 []) ≡ Refused (refusal 1 12)
+no_stream : esds_of (box 0x65736473 0 0 []) ≡ Err (refusal.Cut 12)
 unfolding be bytes field when rule_of one decode length_from head_by seek_from audio.bit_field audio.bits_of
 no_stream = refl
 
-passes : esds_of (box 0x65736473 0 0 (3 ∷ 4 ∷ 0 ∷ 1 ∷ 0 ∷ [])) ≡ Refused (refusal 1 12)
+passes : esds_of (box 0x65736473 0 0 (3 ∷ 4 ∷ 0 ∷ 1 ∷ 0 ∷ [])) ≡ Err (refusal.Cut 12)
 unfolding be bytes field when rule_of one decode length_from head_by seek_from audio.bit_field audio.bits_of
 passes = refl
 
 -- 1 wins over 8 at one position
-passes-other : esds_of (box 0x65736473 0 0 (4 ∷ 4 ∷ 0 ∷ 1 ∷ 0 ∷ [])) ≡ Refused (refusal 1 12)
+passes-other : esds_of (box 0x65736473 0 0 (4 ∷ 4 ∷ 0 ∷ 1 ∷ 0 ∷ [])) ≡ Err (refusal.Cut 12)
 unfolding be bytes field when rule_of one decode length_from head_by seek_from audio.bit_field audio.bits_of
 passes-other = refl
 
-other_tag : esds_of (box 0x65736473 0 0 (4 ∷ 3 ∷ 0 ∷ 1 ∷ 0 ∷ [])) ≡ Refused (refusal 8 12)
+other_tag : esds_of (box 0x65736473 0 0 (4 ∷ 3 ∷ 0 ∷ 1 ∷ 0 ∷ [])) ≡ Err (refusal.Value 12)
 unfolding be bytes field when rule_of one decode length_from head_by seek_from audio.bit_field audio.bits_of
 other_tag = refl
 
 -- a faulty length stands behind the tag
-other-tag-cut : esds_of (box 0x65736473 0 0 (4 ∷ [])) ≡ Refused (refusal 8 12)
+other-tag-cut : esds_of (box 0x65736473 0 0 (4 ∷ [])) ≡ Err (refusal.Value 12)
 unfolding be bytes field when rule_of one decode length_from head_by seek_from audio.bit_field audio.bits_of
 other-tag-cut = refl
 
-length_cut : esds_of (box 0x65736473 0 0 (3 ∷ [])) ≡ Refused (refusal 1 13)
+length_cut : esds_of (box 0x65736473 0 0 (3 ∷ [])) ≡ Err (refusal.Cut 13)
 unfolding be bytes field when rule_of one decode length_from head_by seek_from audio.bit_field audio.bits_of
 length_cut = refl
 
-length-long : esds_of (box 0x65736473 0 0 (3 ∷ 0x80 ∷ 0x80 ∷ 0x80 ∷ 0x83 ∷ 0 ∷ 1 ∷ 0 ∷ [])) ≡ Refused (refusal 8 13)
+length-long : esds_of (box 0x65736473 0 0 (3 ∷ 0x80 ∷ 0x80 ∷ 0x80 ∷ 0x83 ∷ 0 ∷ 1 ∷ 0 ∷ [])) ≡ Err (refusal.Value 13)
 unfolding be bytes field when rule_of one decode length_from head_by seek_from audio.bit_field audio.bits_of
 length-long = refl
 
 -- the flags stand behind the stream's descriptor
-field_cut : esds_of (box 0x65736473 0 0 (3 ∷ 2 ∷ 0 ∷ 1 ∷ 0 ∷ [])) ≡ Refused (refusal 1 16)
+field_cut : esds_of (box 0x65736473 0 0 (3 ∷ 2 ∷ 0 ∷ 1 ∷ 0 ∷ [])) ≡ Err (refusal.Cut 16)
 unfolding be bytes field when rule_of one decode length_from head_by seek_from audio.bit_field audio.bits_of
 field_cut = refl
 
-child-passes : esds_of (box 0x65736473 0 0 (3 ∷ 5 ∷ 0 ∷ 1 ∷ 0 ∷ 6 ∷ 1 ∷ 0 ∷ [])) ≡ Refused (refusal 1 17)
+child-passes : esds_of (box 0x65736473 0 0 (3 ∷ 5 ∷ 0 ∷ 1 ∷ 0 ∷ 6 ∷ 1 ∷ 0 ∷ [])) ≡ Err (refusal.Cut 17)
 unfolding be bytes field when rule_of one decode length_from head_by seek_from audio.bit_field audio.bits_of
 child-passes = refl
 
 -- a number of the DecoderConfig is cut by its own end
-number_cut : esds_of (box 0x65736473 0 0 (3 ∷ 7 ∷ 0 ∷ 1 ∷ 0 ∷ 4 ∷ 2 ∷ 0x40 ∷ 0x15 ∷ 0 ∷ 0 ∷ 0 ∷ [])) ≡ Refused (refusal 1 21)
+number_cut : esds_of (box 0x65736473 0 0 (3 ∷ 7 ∷ 0 ∷ 1 ∷ 0 ∷ 4 ∷ 2 ∷ 0x40 ∷ 0x15 ∷ 0 ∷ 0 ∷ 0 ∷ [])) ≡ Err (refusal.Cut 21)
 unfolding be bytes field when rule_of one decode length_from head_by seek_from audio.bit_field audio.bits_of
 number_cut = refl
 
@@ -155,45 +154,45 @@ second-config : esds_of (box 0x65736473 0 0 (3 ∷ 20 ∷ 0 ∷ 1 ∷ 0 ∷ 4 �
 unfolding be bytes field when rule_of one decode length_from head_by seek_from audio.bit_field audio.bits_of
 second-config = refl
 
-second-cut : esds_of (box 0x65736473 0 0 (3 ∷ 20 ∷ 0 ∷ 1 ∷ 0 ∷ 4 ∷ 13 ∷ numbers ++ (4 ∷ 1 ∷ []))) ≡ Refused (refusal 1 32)
+second-cut : esds_of (box 0x65736473 0 0 (3 ∷ 20 ∷ 0 ∷ 1 ∷ 0 ∷ 4 ∷ 13 ∷ numbers ++ (4 ∷ 1 ∷ []))) ≡ Err (refusal.Cut 32)
 unfolding be bytes field when rule_of one decode length_from head_by seek_from audio.bit_field audio.bits_of
 second-cut = refl
 
 -- WRITING
 
 abbrev aac : Esds
-aac = esds 0 (stream 1 0 0 0) (decoder.Is (config 0x40 0x15 0 128000 128000 true)) true
+aac = esds 0 (stream 1 0 0 0) (Some (config 0x40 0x15 0 128000 128000 true)) true
 
 abbrev ours : List ℕ
 ours = box 0x65736473 0 0 (3 ∷ 25 ∷ 0 ∷ 1 ∷ 0 ∷ 4 ∷ 17 ∷ numbers ++ (5 ∷ 2 ∷ 0x11 ∷ 0x90 ∷ 6 ∷ 1 ∷ 2 ∷ []))
 
 -- the lengths in their shortest form; what lies behind the box stays
-written : esds_in aac [] (0x11 ∷ 0x90 ∷ []) (2 ∷ []) (replicate 40 9) ≡ wrote (put.Done 39) (ours ++ replicate 1 9)
+written : esds_in aac [] (0x11 ∷ 0x90 ∷ []) (2 ∷ []) (replicate 40 9) ≡ wrote (Ok 39) (ours ++ replicate 1 9)
 unfolding bytes when rule_of lay encode groups high audio.bit_field audio.bits_of
 written = refl
 
-bare-written : esds_in (esds 7 (stream 1 0x40 0 0) decoder.Absent false) (0x61 ∷ []) [] [] (replicate 19 9) ≡ wrote (put.Done 19) (box 0x65736473 0 7 (3 ∷ 5 ∷ 0 ∷ 1 ∷ 0x40 ∷ 1 ∷ 0x61 ∷ []))
+bare-written : esds_in (esds 7 (stream 1 0x40 0 0) None false) (0x61 ∷ []) [] [] (replicate 19 9) ≡ wrote (Ok 19) (box 0x65736473 0 7 (3 ∷ 5 ∷ 0 ∷ 1 ∷ 0x40 ∷ 1 ∷ 0x61 ∷ []))
 unfolding bytes when rule_of lay encode groups high audio.bit_field audio.bits_of
 bare-written = refl
 
-no_room : esds_in aac [] (0x11 ∷ 0x90 ∷ []) (2 ∷ []) (replicate 38 9) ≡ wrote (put.Refused (refusal 12 39)) (replicate 38 9)
+no_room : esds_in aac [] (0x11 ∷ 0x90 ∷ []) (2 ∷ []) (replicate 38 9) ≡ wrote (Err (refusal.TooSmall 39)) (replicate 38 9)
 unfolding bytes when rule_of lay encode groups high audio.bit_field audio.bits_of
 no_room = refl
 
 -- bytes of what is not there; flags of 25 bits; both come before the room
-no-url : esds_in aac (0x61 ∷ []) (0x11 ∷ 0x90 ∷ []) (2 ∷ []) [] ≡ wrote (put.Refused (refusal 13 0)) []
+no-url : esds_in aac (0x61 ∷ []) (0x11 ∷ 0x90 ∷ []) (2 ∷ []) [] ≡ wrote (Err refusal.Unwritable) []
 unfolding bytes when rule_of lay encode groups high audio.bit_field audio.bits_of
 no-url = refl
 
-no-config : esds_in (esds 0 (stream 1 0 0 0) decoder.Absent true) [] (0x11 ∷ []) (2 ∷ []) [] ≡ wrote (put.Refused (refusal 13 0)) []
+no-config : esds_in (esds 0 (stream 1 0 0 0) None true) [] (0x11 ∷ []) (2 ∷ []) [] ≡ wrote (Err refusal.Unwritable) []
 unfolding bytes when rule_of lay encode groups high audio.bit_field audio.bits_of
 no-config = refl
 
-no-sl : esds_in (esds 0 (stream 1 0 0 0) decoder.Absent false) [] [] (2 ∷ []) [] ≡ wrote (put.Refused (refusal 13 0)) []
+no-sl : esds_in (esds 0 (stream 1 0 0 0) None false) [] [] (2 ∷ []) [] ≡ wrote (Err refusal.Unwritable) []
 unfolding bytes when rule_of lay encode groups high audio.bit_field audio.bits_of
 no-sl = refl
 
-no-flags : esds_in (esds 0x100_0000 (stream 1 0 0 0) decoder.Absent false) [] [] [] [] ≡ wrote (put.Refused (refusal 13 0)) []
+no-flags : esds_in (esds 0x100_0000 (stream 1 0 0 0) None false) [] [] [] [] ≡ wrote (Err refusal.Unwritable) []
 unfolding bytes when rule_of lay encode groups high audio.bit_field audio.bits_of
 no-flags = refl
 

@@ -1,28 +1,20 @@
-#![tactic(auto)]
+#![tactic(auto, unfolding(numbers::specs::Field::when, numbers::specs::Field::field))]
 // The descriptor of an elementary stream in a box (ISO/IEC 14496-14, 5.6; ES_Descriptor, 14496-1, 7.2.6.5): its fields, then
 // descriptors, of which the DecoderConfig and the SLConfig are kept (A29).
 ghost use Rattle.std.specs.Prelude.{◌≡◌};
 ghost use Rattle.esds.specs.Esds.{tail_of, after_config, content_of, stream_of, esds_of};
 
 use decoderconfig::Config;
-use descriptor::Length;
 use descriptors::Sought;
 use esfields::Stream;
 use layout::Field;
-use numbers::{Refusal, U8};
-
-// How the stream is decoded, where that is said.
-#[derive(Clone, Copy)]
-pub enum Decoder {
-    Absent,
-    Is(Config),
-}
+use numbers::Refusal;
 
 #[derive(Clone, Copy)]
 pub struct Esds {
     pub flags: u32,
     pub stream: Stream,
-    pub decoder: Decoder,
+    pub decoder: Option<Config>,
     pub has_sl: bool,
 }
 
@@ -38,12 +30,6 @@ pub struct Places {
     pub sl_end: usize,
 }
 
-#[derive(Clone, Copy)]
-pub enum Found {
-    Is(Esds, Places),
-    Refused(Refusal),
-}
-
 // Where the content of the DecoderSpecificInfo and of the SLConfig begins and ends.
 #[derive(Clone, Copy)]
 pub(crate) struct Parts {
@@ -51,13 +37,6 @@ pub(crate) struct Parts {
     pub info_end: usize,
     pub sl: usize,
     pub sl_end: usize,
-}
-
-// What stands behind the fields.
-#[derive(Clone, Copy)]
-pub(crate) enum Tail {
-    Is(Decoder, bool, Parts),
-    Refused(Refusal),
 }
 
 pub const KIND: u32 = 0x65736473;
@@ -74,58 +53,52 @@ pub const ROW: [Field; 8] = [
 ];
 
 // Behind the first DecoderConfig: an SLConfig, with which the rest is skipped. Of others before it the heads are tested.
-fn after_config(s: &[u8], at: usize, config: Config, info: usize, info_end: usize) -> Tail
+fn after_config(
+    s: &[u8],
+    at: usize,
+    config: Config,
+    info: usize,
+    info_end: usize,
+) -> Result<(Option<Config>, bool, Parts), Refusal>
     ensures { result ≡ after_config s.now at config info info_end }
 {
-    match descriptors::seek(s, at, 6, 6) {
-        Sought::Refused(q) => Tail::Refused(q),
-        Sought::End => {
+    match descriptors::seek(s, at, 6, 6)? {
+        None => {
             let parts = Parts {
-                info: info,
-                info_end: info_end,
+                info,
+                info_end,
                 sl: 0,
                 sl_end: 0,
             };
-            Tail::Is(Decoder::Is(config), false, parts)
+            Ok((Some(config), false, parts))
         }
-        Sought::Is {
-            tag: _,
-            at: _,
-            from,
-            to,
-        } => {
+        Some(Sought { from, to, .. }) => {
             let parts = Parts {
-                info: info,
-                info_end: info_end,
+                info,
+                info_end,
                 sl: from,
                 sl_end: to,
             };
-            Tail::Is(Decoder::Is(config), true, parts)
+            Ok((Some(config), true, parts))
         }
     }
 }
 
 // The descriptors behind the fields: a DecoderConfig, an SLConfig.
-fn tail_at(s: &[u8], at: usize) -> Tail
+fn tail_at(s: &[u8], at: usize) -> Result<(Option<Config>, bool, Parts), Refusal>
     ensures { result ≡ tail_of s.now at }
 {
-    match descriptors::seek(s, at, 4, 6) {
-        Sought::Refused(q) => Tail::Refused(q),
-        Sought::End => {
+    match descriptors::seek(s, at, 4, 6)? {
+        None => {
             let parts = Parts {
                 info: 0,
                 info_end: 0,
                 sl: 0,
                 sl_end: 0,
             };
-            Tail::Is(Decoder::Absent, false, parts)
+            Ok((None, false, parts))
         }
-        Sought::Is {
-            tag,
-            at: _,
-            from,
-            to,
-        } => {
+        Some(Sought { tag, from, to, .. }) => {
             if tag == 6 {
                 let parts = Parts {
                     info: 0,
@@ -133,98 +106,66 @@ fn tail_at(s: &[u8], at: usize) -> Tail
                     sl: from,
                     sl_end: to,
                 };
-                return Tail::Is(Decoder::Absent, true, parts);
+                return Ok((None, true, parts));
             }
-            match decoderconfig::read(&s[..to], from) {
-                decoderconfig::Found::Refused(q) => Tail::Refused(q),
-                decoderconfig::Found::Is(config, info, info_end) => after_config(
-                    s, to, config, info, info_end,
-                ),
-            }
+            let (config, info, info_end) = decoderconfig::read(&s[..to], from)?;
+            after_config(s, to, config, info, info_end)
         }
     }
 }
 
 // What stands in the stream's descriptor, which ends where s does.
-fn content_at(s: &[u8], at: usize, flags: u32) -> Found
+fn content_at(s: &[u8], at: usize, flags: u32) -> Result<(Esds, Places), Refusal>
     ensures { result ≡ content_of s.now at flags }
 {
-    match esfields::read(s, at) {
-        esfields::Found::Refused(q) => Found::Refused(q),
-        esfields::Found::Is(stream, url, url_end, end) => {
-            match tail_at(s, end) {
-                Tail::Refused(q) => Found::Refused(q),
-                Tail::Is(decoder, has_sl, parts) => {
-                    let esds = Esds {
-                        flags: flags,
-                        stream: stream,
-                        decoder: decoder,
-                        has_sl: has_sl,
-                    };
-                    let places = Places {
-                        url: url,
-                        url_end: url_end,
-                        info: parts.info,
-                        info_end: parts.info_end,
-                        sl: parts.sl,
-                        sl_end: parts.sl_end,
-                    };
-                    Found::Is(esds, places)
-                }
-            }
-        }
-    }
+    let (stream, url, url_end, end) = esfields::read(s, at)?;
+    let (decoder, has_sl, parts) = tail_at(s, end)?;
+    let esds = Esds {
+        flags,
+        stream,
+        decoder,
+        has_sl,
+    };
+    let places = Places {
+        url,
+        url_end,
+        info: parts.info,
+        info_end: parts.info_end,
+        sl: parts.sl,
+        sl_end: parts.sl_end,
+    };
+    Ok((esds, places))
 }
 
 // The stream's descriptor at `at`. Another tag is told before a fault of the length, since it stands before it.
-fn stream_at(s: &[u8], at: usize, flags: u32) -> Found
+fn stream_at(s: &[u8], at: usize, flags: u32) -> Result<(Esds, Places), Refusal>
     ensures { result ≡ stream_of s.now at flags }
 {
-    let U8::Is(tag) = numbers::u8_at(s, at) else {
-        return Found::Refused(Refusal {
-            number: 1,
-            detail: at,
-        });
-    };
+    let tag = numbers::read::<u8>(s, at)?;
     match descriptor::length_at(s, at + 1) {
-        Length::Refused(q) => {
+        Err(q) => {
             if tag == 3 {
-                return Found::Refused(q);
+                return Err(q);
             }
-            Found::Refused(Refusal {
-                number: 8,
-                detail: at,
-            })
+            Err(Refusal::Value(at))
         }
-        Length::Is { value, after } => {
-            if s.len() - after < value as usize {
-                return Found::Refused(Refusal {
-                    number: 1,
-                    detail: at,
-                });
+        Ok(length) => {
+            if s.len() - length.after < length.value as usize {
+                return Err(Refusal::Cut(at));
             }
-            let to = after + (value as usize);
+            let to = length.after + (length.value as usize);
             if tag == 3 {
-                return content_at(&s[..to], after, flags);
+                return content_at(&s[..to], length.after, flags);
             }
-            Found::Refused(Refusal {
-                number: 8,
-                detail: at,
-            })
+            Err(Refusal::Value(at))
         }
     }
 }
 
-pub fn read(part: &[u8]) -> Found
+pub fn read(part: &[u8]) -> Result<(Esds, Places), Refusal>
     ensures { result ≡ esds_of part.now }
 {
-    let got = short::read::by(part, KIND, ROW);
-    if got.number != 0 {
-        return Found::Refused(Refusal {
-            number: got.number,
-            detail: got.place,
-        });
-    }
+    let got = short::read::by(part, KIND, ROW)?;
     let v = got.values;
     let place = got.place;
     let end = got.end;

@@ -1,15 +1,13 @@
-#![tactic(auto)]
+#![tactic(auto, unfolding(numbers::specs::Field::when, numbers::specs::Field::field))]
 // The parts of an elementary stream's descriptor in a box (`esds`), each lent where it lies.
 ghost use Rattle.std.specs.Prelude.{◌≡◌};
 ghost use Rattle.esds.specs.Esds.{url_of, info_of, sl_of};
-
-use esds::Found;
 
 // The URL, as the part of the box where it lies; no bytes where there is none or the box is refused.
 pub fn url(part: &[u8]) -> &[u8]
     ensures { result.now ≡ url_of part.now }
 {
-    let Found::Is(_, places) = esds::read(part) else {
+    let Ok((_, places)) = esds::read(part) else {
         return &part[..0];
     };
     let from = places.url;
@@ -21,7 +19,7 @@ pub fn url(part: &[u8]) -> &[u8]
 pub fn info(part: &[u8]) -> &[u8]
     ensures { result.now ≡ info_of part.now }
 {
-    let Found::Is(_, places) = esds::read(part) else {
+    let Ok((_, places)) = esds::read(part) else {
         return &part[..0];
     };
     let from = places.info;
@@ -33,7 +31,7 @@ pub fn info(part: &[u8]) -> &[u8]
 pub fn sl(part: &[u8]) -> &[u8]
     ensures { result.now ≡ sl_of part.now }
 {
-    let Found::Is(_, places) = esds::read(part) else {
+    let Ok((_, places)) = esds::read(part) else {
         return &part[..0];
     };
     let from = places.sl;

@@ -1,4 +1,5 @@
 -- What is written reads back the same: the record, and the URL where it lies. Assumes nothing.
+use Rattle.std.specs.Prelude.{Ok, Err}
 use mathlib.Core.Path.{◌≡◌, refl, sym, ap, ◌∙◌}
 use mathlib.Core.List.{List, ◌++◌}
 use mathlib.Core.Bool.{true}
@@ -12,14 +13,13 @@ use Rattle.descriptors.specs.Descriptors.{span}
 use Rattle.descriptors.proofs.Lies.{Lies, next, split, in-it, number-back, span-back}
 use Rattle.esfields.specs.EsFields.{wide, stream, fields_of, sound, field_bytes}
 use Rattle.esfields.specs.declared.Stream.{Stream}
-use Rattle.esfields.specs.declared.Found.TheVariants.{Is, Refused}
 use Rattle.esfields.proofs.Puts.{sounds, length_fields}
 
 -- the record that is read, where the URL lies, and where the fields end
 pub record Back (m : Stream) (url s : List ℕ) (at : ℕ) : Type 0 where
   pub from : ℕ
   pub to : ℕ
-  pub read : fields_of s at ≡ Is m from to (at + length (field_bytes m url))
+  pub read : fields_of s at ≡ Ok (m, from, to, at + length (field_bytes m url))
   pub part : span s from to ≡ url
 
 pub fields_back : (m : Stream) (url s pre rest : List ℕ) (at : ℕ) → sound m url ≡ true → Lies s pre (field_bytes m url) rest at → Back m url s at
@@ -59,13 +59,13 @@ fields_back m url s pre rest at h l =
       from = at + 3 + wd + wu;
       to = at + 3 + wd + wu + length url;
       read =
-          number-back Refused 2 m.id s pre (x2 ++ (x3 ++ (x4 ++ (url ++ (x6 ++ rest))))) at s1 ok.id _
-          ∙ number-back Refused 1 m.flags s (pre ++ x1) (x3 ++ (x4 ++ (url ++ (x6 ++ rest)))) (at + 2) m2 ok.flags _
-          ∙ number-back Refused wd m.depends_on s (pre ++ (x1 ++ x2)) (x4 ++ (url ++ (x6 ++ rest))) (at + 3) m3 ok.depends _
-          ∙ number-back Refused wu (length url) s (pre ++ (x1 ++ x2 ++ x3)) (url ++ (x6 ++ rest)) (at + 3 + wd) m4 ok.url-has _
-          ∙ sym (whole (length url) s (at + 3 + wd + wu) Refused _ _ (be (length url) s (at + 3 + wd + wu))
+          number-back Err 2 m.id s pre (x2 ++ (x3 ++ (x4 ++ (url ++ (x6 ++ rest))))) at s1 ok.id _
+          ∙ number-back Err 1 m.flags s (pre ++ x1) (x3 ++ (x4 ++ (url ++ (x6 ++ rest)))) (at + 2) m2 ok.flags _
+          ∙ number-back Err wd m.depends_on s (pre ++ (x1 ++ x2)) (x4 ++ (url ++ (x6 ++ rest))) (at + 3) m3 ok.depends _
+          ∙ number-back Err wu (length url) s (pre ++ (x1 ++ x2 ++ x3)) (url ++ (x6 ++ rest)) (at + 3 + wd) m4 ok.url-has _
+          ∙ sym (whole (length url) s (at + 3 + wd + wu) Err _ _ (be (length url) s (at + 3 + wd + wu))
           (omega (arith, in-it s (pre ++ (x1 ++ x2 ++ x3 ++ x4)) url (x6 ++ rest) (at + 3 + wd + wu) m5)) refl refl)
-          ∙ number-back Refused wo m.ocr_id s (pre ++ (x1 ++ x2 ++ x3 ++ x4 ++ url)) rest (at + 3 + wd + wu + length url) m6 ok.clock _
-          ∙ ap (Is m (at + 3 + wd + wu) (at + 3 + wd + wu + length url)) e;
+          ∙ number-back Err wo m.ocr_id s (pre ++ (x1 ++ x2 ++ x3 ++ x4 ++ url)) rest (at + 3 + wd + wu + length url) m6 ok.clock _
+          ∙ ap (λ d. Ok (m, (at + 3 + wd + wu), (at + 3 + wd + wu + length url), d)) e;
       part = span-back s (pre ++ (x1 ++ x2 ++ x3 ++ x4)) url (x6 ++ rest) (at + 3 + wd + wu) (at + 3 + wd + wu + length url) m5 refl;
     }

@@ -1,4 +1,5 @@
 -- The fields that were read are sound, and their bytes are those that are written. Assumes nothing.
+use Rattle.std.specs.Prelude.{Result, Ok, Err}
 use mathlib.Core.Path.{◌≡◌, refl, sym, ap, ap₂, ◌∙◌}
 use mathlib.Core.List.{List, [], ◌++◌}
 use mathlib.Core.Bool.{Bool, true, ◌&&◌}
@@ -15,7 +16,6 @@ use Rattle.descriptors.specs.Descriptors.{span}
 use Rattle.descriptors.proofs.Own.{length-span, span_none, span-join, grown}
 use Rattle.esfields.specs.EsFields.{wide, stream, fields_of, sound, field_bytes}
 use Rattle.esfields.specs.declared.Stream.{Stream}
-use Rattle.esfields.specs.declared.Found.TheVariants.{Is, Refused}
 use Rattle.esfields.proofs.Puts.{length_fields}
 
 all_true : (a b c d e : Bool) → a ≡ true → b ≡ true → c ≡ true → d ≡ true → e ≡ true → a && b && c && d && e ≡ true
@@ -79,13 +79,14 @@ module _ (s : List ℕ) (at : ℕ) (b : Bytes s) where
             (lt-ltb (length url) (256 ^ wu) (omega (arith, n, be-below wu s (at + 3 + wd) b))) (lt-ltb clock (256 ^ wo) (be-below wo s last b));
       }
 
-  told : (m : Stream) (u v e : ℕ) → last + wo ≤ length s → Is (stream id flags depends clock) first last (last + wo) ≡ Is m u v e → Own m s at u v e
+  told : (m : Stream) (u v e : ℕ) → last + wo ≤ length s → ◌≡◌ {A = Result (Stream × ℕ × ℕ × ℕ) Refusal} (Ok (stream id flags depends clock, first, last, last + wo)) (Ok (m, u, v, e)) → Own m s at u v e
   told m u v e h q =
       let r = as_read h in
-      let em : stream id flags depends clock ≡ m = cc in
-      let eu : first ≡ u = cc in
-      let ev : last ≡ v = cc in
-      let ee : last + wo ≡ e = cc in
+      let all : ◌≡◌ {A = Stream × ℕ × ℕ × ℕ} (stream id flags depends clock, first, last, last + wo) (m, u, v, e) = cc q in
+      let em : stream id flags depends clock ≡ m = ap (λ (x : Stream × ℕ × ℕ × ℕ). x.0) all in
+      let eu : first ≡ u = ap (λ (x : Stream × ℕ × ℕ × ℕ). x.1) all in
+      let ev : last ≡ v = ap (λ (x : Stream × ℕ × ℕ × ℕ). x.2) all in
+      let ee : last + wo ≡ e = ap (λ (x : Stream × ℕ × ℕ × ℕ). x.3) all in
       let ep : span s first last ≡ span s u v = ap₂ (span s) eu ev in
       let eb : field_bytes (stream id flags depends clock) (span s first last) ≡ field_bytes m (span s u v) = ap₂ field_bytes em ep in
       record {
@@ -96,24 +97,24 @@ module _ (s : List ℕ) (at : ℕ) (b : Bytes s) where
       }
 
 -- the fields that were read: where the URL lies, how long they are, and their bytes
-pub fields-own : (s : List ℕ) (at : ℕ) → Bytes s → (m : Stream) (u v e : ℕ) → fields_of s at ≡ Is m u v e → Own m s at u v e
+pub fields-own : (s : List ℕ) (at : ℕ) → Bytes s → (m : Stream) (u v e : ℕ) → fields_of s at ≡ Ok (m, u, v, e) → Own m s at u v e
 fields-own s at b m u v e h =
     ⊎_elim
     (λ y1. ⊎_elim
     (λ y2. ⊎_elim
     (λ y3. ⊎_elim
     (λ y4. ⊎_elim
-    (λ y5. ⊎_elim (λ y6. told s at b m u v e y6.0 y6.1) (λ y. refused _ y.1) (field-way _ s _ Refused _ _ y5.1))
+    (λ y5. ⊎_elim (λ y6. told s at b m u v e y6.0 y6.1) (λ y. refused _ y.1) (field-way _ s _ Err _ _ y5.1))
     (λ y. refused _ y.1)
-    (field-way _ s _ Refused _ _ y4.1))
+    (field-way _ s _ Err _ _ y4.1))
     (λ y. refused _ y.1)
-    (field-way _ s _ Refused _ _ y3.1))
+    (field-way _ s _ Err _ _ y3.1))
     (λ y. refused _ y.1)
-    (field-way _ s _ Refused _ _ y2.1))
+    (field-way _ s _ Err _ _ y2.1))
     (λ y. refused _ y.1)
-    (field-way 1 s (at + 2) Refused _ _ y1.1))
+    (field-way 1 s (at + 2) Err _ _ y1.1))
     (λ y. refused _ y.1)
-    (field-way 2 s at Refused _ _ h)
+    (field-way 2 s at Err _ _ h)
   where
-    refused : (q : Refusal) → Refused q ≡ Is m u v e → Own m s at u v e
-    refused q f = let z : ◌≡◌ {A = ℕ} 0 1 = cc in absurd (omega arith)
+    refused : (q : Refusal) → ◌≡◌ {A = Result (Stream × ℕ × ℕ × ℕ) Refusal} (Err q) (Ok (m, u, v, e)) → Own m s at u v e
+    refused q f = let z : ◌≡◌ {A = ℕ} 0 1 = cc f in absurd (omega arith)

@@ -1,4 +1,5 @@
 -- What the writer does, step by step. Assumes nothing.
+use Rattle.std.specs.Prelude.{Result, Ok, Err}
 use mathlib.Core.Path.{◌≡◌, refl, sym, ap, ap₂, ◌∙◌}
 use mathlib.Core.List.{List, ◌++◌}
 use mathlib.Core.Bool.{Bool, true, false, ◌&&◌}
@@ -10,16 +11,13 @@ use lib.Seq.{sets}
 use lib.Dec.{ltb}
 use borrow.Author.Tests.{lt-ltb, ltb-true}
 use Rattle.numbers.specs.Number.{bytes}
-use Rattle.numbers.specs.Field.{when, refusal}
+use Rattle.numbers.specs.Field.{when}
+use Rattle.numbers.specs.declared.Refusal.TheVariants as refusal
 use Rattle.numbers.specs.declared.Refusal.{Refusal}
-use Rattle.numbers.specs.declared.U32.{U32}
-use Rattle.numbers.specs.declared.U32.TheVariants as u32
 use Rattle.numbers.proofs.Laws.{length-bytes, under}
 use Rattle.numbers.proofs.Chain.{by-true, by-false, way}
 use Rattle.put.specs.Put.{wrote, placed, put_of}
-use Rattle.put.specs.declared.Put.{Put}
-use Rattle.put.specs.declared.Put.TheVariants.{Done, Refused}
-use Rattle.put.proofs.Placed.{has_room, no-sum, no_room}
+use Rattle.put.proofs.Placed.{done, has_room, no-sum, no_room}
 use Rattle.descriptors.proofs.Puts.{number_put, part-put, more, same-long}
 use Rattle.esfields.specs.EsFields.{is_set, wide, has, sound, field_bytes, size_of, fields_in}
 use Rattle.esfields.specs.declared.Stream.{Stream}
@@ -59,7 +57,7 @@ module _ (m : Stream) (url : List ℕ) (hi : m.id < 256 ^ 2) (hf : m.flags < 256
 
 and-true : (a b : Bool) → a && b ≡ true → (a ≡ true) × (b ≡ true)
 and-true true b h = (refl, h)
-and-true false b h = let z : ◌≡◌ {A = ℕ} 0 1 = cc in absurd (omega arith)
+and-true false b h = let z : ◌≡◌ {A = ℕ} 0 1 = cc h in absurd (omega arith)
 
 pub record Sound (m : Stream) (url : List ℕ) : Type 0 where
   pub id : m.id < 256 ^ 2
@@ -120,32 +118,25 @@ module _ (m : Stream) (url : List ℕ) where
       (x ≡ wide m.flags 0x80 2) × (y ≡ wide m.flags 0x40 1) × (z ≡ wide m.flags 0x20 2)
   widths a b c x y z ea eb ec ex ey ez = (ex ∙ ap (λ t. when t 2 0) ea, ey ∙ ap (λ t. when t 1 0) eb, ez ∙ ap (λ t. when t 2 0) ec)
 
-  pub no_size : sound m url ≡ false → u32.Refused (refusal 13 0) ≡ size_of m url
+  pub no_size : sound m url ≡ false → Err refusal.Unwritable ≡ size_of m url
   no_size e = by-false _ _ _ (sound m url) e refl
 
-  pub its-size : (n : ℕ) → sound m url ≡ true → n ≡ length (field_bytes m url) → u32.Is n ≡ size_of m url
-  its-size n e q = by-true _ _ _ (sound m url) e (ap u32.Is q)
+  pub its-size : (n : ℕ) → sound m url ≡ true → n ≡ length (field_bytes m url) → Ok n ≡ size_of m url
+  its-size n e q = by-true _ _ _ (sound m url) e (ap Ok q)
 
-  pub size-told : (r : U32) → r ≡ size_of m url → (n : ℕ) → r ≡ u32.Is n → (sound m url ≡ true) × (n ≡ length (field_bytes m url))
+  pub size-told : (r : Result ℕ Refusal) → r ≡ size_of m url → (n : ℕ) → r ≡ Ok n → (sound m url ≡ true) × (n ≡ length (field_bytes m url))
   size-told r e n f =
-      ⊎_elim
-      (λ y. (y.0, let q : u32.Is (length (field_bytes m url)) ≡ u32.Is n = y.1 ∙ f in let z : n ≡ length (field_bytes m url) = cc in z))
-      (λ y. let q : u32.Refused (refusal 13 0) ≡ u32.Is n = y.1 ∙ f in let z : ◌≡◌ {A = ℕ} 0 1 = cc in absurd (omega arith))
-      (way (sound m url) _ _ _ (sym e))
-
-  pub size-refused : (r : U32) → r ≡ size_of m url → (q : Refusal) → r ≡ u32.Refused q → sound m url ≡ false
-  size-refused r e q f =
-      ⊎_elim (λ y. let z : u32.Is (length (field_bytes m url)) ≡ u32.Refused q = y.1 ∙ f in let v : ◌≡◌ {A = ℕ} 0 1 = cc in absurd (omega arith)) (λ y. y.0)
+      ⊎_elim (λ y. let z : n ≡ length (field_bytes m url) = cc (y.1, f) in (y.0, z)) (λ y. let z : ◌≡◌ {A = ℕ} 0 1 = cc (y.1, f) in absurd (omega arith))
       (way (sound m url) _ _ _ (sym e))
 
 -- STORES
 
 module _ (m : Stream) (url : List ℕ) (at x y z : ℕ) (ex : x ≡ wide m.flags 0x80 2) (ey : y ≡ wide m.flags 0x40 1) (ez : z ≡ wide m.flags 0x20 2)
-    (buf b1 b2 b3 b4 b5 b6 : List ℕ) (p q r t u v : Put) (room : at + length (field_bytes m url) ≤ length buf) (hi : m.id < 256 ^ 2) (hf : m.flags < 256 ^ 1)
+    (buf b1 b2 b3 b4 b5 b6 : List ℕ) (p q r t u v : Result ℕ Refusal) (room : at + length (field_bytes m url) ≤ length buf) (hi : m.id < 256 ^ 2) (hf : m.flags < 256 ^ 1)
     (hd : m.depends_on < 256 ^ wide m.flags 0x80 2) (hu : length url < 256 ^ wide m.flags 0x40 1) (ho : m.ocr_id < 256 ^ wide m.flags 0x20 2) where
   pub fields-put : wrote p b1 ≡ put_of 2 m.id at buf → wrote q b2 ≡ put_of 1 m.flags (at + 2) b1 → wrote r b3 ≡ put_of x m.depends_on (at + 3) b2 →
       wrote t b4 ≡ put_of y (length url) (at + 3 + x) b3 → wrote u b5 ≡ placed url (length url) (at + 3 + x + y) b4 → wrote v b6 ≡ put_of z m.ocr_id (at + 3 + x + y + length url) b5 →
-      b6 ≡ sets buf at (field_bytes m url)
+      wrote v b6 ≡ placed (field_bytes m url) (length (field_bytes m url)) at buf
   fields-put e1 e2 e3 e4 e5 e6 =
       let x1 = bytes 2 m.id in
       let x2 = bytes 1 m.flags in
@@ -174,41 +165,42 @@ module _ (m : Stream) (url : List ℕ) (at x y z : ℕ) (ex : x ≡ wide m.flags
       let l4 : length b4 ≡ length b3 = same-long b3 b4 x4 (at + 3 + x) f4 in
       let f5 : b5 ≡ sets b4 (at + 3 + x + y) url = part-put url (at + 3 + x + y) b4 b5 u (omega (arith, long, l1, l2, l3, l4)) e5 in
       let l5 : length b5 ≡ length b4 = same-long b4 b5 url (at + 3 + x + y) f5 in
-      let f6 : b6 ≡ sets b5 (at + 3 + x + y + length url) x6 = number_put z m.ocr_id (at + 3 + x + y + length url) b5 b6 v (omega (arith, fz)) go (omega (arith, long, l1, l2, l3, l4, l5)) e6 in
       let g2 : b2 ≡ sets buf at (x1 ++ x2) = more buf b1 b2 x1 x2 at (at + 2) f1 f2 (omega (arith, k1)) in
       let g3 : b3 ≡ sets buf at (x1 ++ x2 ++ x3) = more buf b2 b3 (x1 ++ x2) x3 at (at + 3) g2 f3 (omega (arith, k1, k2, length-append x1 x2)) in
       let g4 : b4 ≡ sets buf at (x1 ++ x2 ++ x3 ++ x4) = more buf b3 b4 (x1 ++ x2 ++ x3) x4 at (at + 3 + x) g3 f4 (omega (arith, k1, k2, k3, length-append x1 x2, length-append (x1 ++ x2) x3)) in
       let g5 : b5 ≡ sets buf at (x1 ++ x2 ++ x3 ++ x4 ++ url) =
       more buf b4 b5 (x1 ++ x2 ++ x3 ++ x4) url at (at + 3 + x + y) g4 f5 (omega (arith, k1, k2, k3, k4, length-append x1 x2, length-append (x1 ++ x2) x3, length-append (x1 ++ x2 ++ x3) x4)) in
-      let g6 : b6 ≡ sets buf at (x1 ++ x2 ++ x3 ++ x4 ++ url ++ x6) =
-      more buf b5 b6 (x1 ++ x2 ++ x3 ++ x4 ++ url) x6 at (at + 3 + x + y + length url) g5 f6
+      let g6 : sets b5 (at + 3 + x + y + length url) x6 ≡ sets buf at (x1 ++ x2 ++ x3 ++ x4 ++ url ++ x6) =
+      more buf b5 _ (x1 ++ x2 ++ x3 ++ x4 ++ url) x6 at (at + 3 + x + y + length url) g5 refl
       (omega (arith, k1, k2, k3, k4, length-append x1 x2, length-append (x1 ++ x2) x3, length-append (x1 ++ x2 ++ x3) x4, length-append (x1 ++ x2 ++ x3 ++ x4) url)) in
+      let g7 : sets b5 (at + 3 + x + y + length url) x6 ≡ sets buf at (field_bytes m url) =
       g6
       ∙ ap₂ (λ (i j : ℕ). sets buf at (x1 ++ x2 ++ bytes i m.depends_on ++ bytes j (length url) ++ url ++ x6)) ex ey
-      ∙ ap (λ i. sets buf at (x1 ++ x2 ++ bytes (wide m.flags 0x80 2) m.depends_on ++ bytes (wide m.flags 0x40 1) (length url) ++ url ++ bytes i m.ocr_id)) ez
+      ∙ ap (λ i. sets buf at (x1 ++ x2 ++ bytes (wide m.flags 0x80 2) m.depends_on ++ bytes (wide m.flags 0x40 1) (length url) ++ url ++ bytes i m.ocr_id)) ez in
+      e6 ∙ sym (done z m.ocr_id (at + 3 + x + y + length url) b5 (omega (arith, fz)) go (omega (arith, long, l1, l2, l3, l4, l5)))
+      ∙ ap₂ (λ (n : ℕ) (b : List ℕ). wrote (Ok n) b) (let k : at + 3 + x + y + length url + z ≡ at + length (field_bytes m url) = omega (arith, l, ex, ey, ez) in k) g7
+      ∙ has_room (field_bytes m url) (length (field_bytes m url)) at buf room
 
 -- ALL FIELDS
 
 module _ (m : Stream) (url : List ℕ) (at : ℕ) (out : List ℕ) where
-  pub unsound : sound m url ≡ false → wrote (Refused (refusal 13 0)) out ≡ fields_in m url at out
+  pub unsound : sound m url ≡ false → wrote (Err refusal.Unwritable) out ≡ fields_in m url at out
   unsound e = by-false _ _ _ (sound m url) e refl
 
   module _ (h : sound m url ≡ true) (n : ℕ) (e : n ≡ length (field_bytes m url)) where
-    pub no_end : length out < 2 ^ 64 → 2 ^ 64 ≤ at + n → wrote (Refused (refusal 9 0)) out ≡ fields_in m url at out
+    pub no_end : length out < 2 ^ 64 → 2 ^ 64 ≤ at + n → wrote (Err refusal.Overflow) out ≡ fields_in m url at out
     no_end l g = by-true _ _ _ (sound m url) h (no-sum (field_bytes m url) (length (field_bytes m url)) at out l (omega (arith, e, g)))
 
-    pub no_place : at + n < 2 ^ 64 → length out < at + n → wrote (Refused (refusal 12 (at + n))) out ≡ fields_in m url at out
+    pub no_place : at + n < 2 ^ 64 → length out < at + n → wrote (Err (refusal.TooSmall (at + n))) out ≡ fields_in m url at out
     no_place l g =
-        ap (λ n. wrote (Refused (refusal 12 (at + n))) out) e
+        ap (λ n. wrote (Err (refusal.TooSmall (at + n))) out) e
         ∙ by-true _ _ _ (sound m url) h (no_room (field_bytes m url) (length (field_bytes m url)) at out (omega (arith, e, l)) (omega (arith, e, g)))
 
-    pub all-put : at + n ≤ length out → (b : List ℕ) → b ≡ sets out at (field_bytes m url) → wrote (Done (at + n)) b ≡ fields_in m url at out
-    all-put g b f =
-        ap₂ (λ (n : ℕ) (b : List ℕ). wrote (Done (at + n)) b) e f
-        ∙ by-true _ _ _ (sound m url) h (has_room (field_bytes m url) (length (field_bytes m url)) at out (omega (arith, e, g)))
+    pub all-put : (b : List ℕ) (p : Result ℕ Refusal) → wrote p b ≡ placed (field_bytes m url) (length (field_bytes m url)) at out → wrote p b ≡ fields_in m url at out
+    all-put b p f = by-true _ _ _ (sound m url) h f
 
 -- fields that have room
-pub fields-in : (m : Stream) (url : List ℕ) (at : ℕ) (out after : List ℕ) (p : Put) → sound m url ≡ true → at + length (field_bytes m url) ≤ length out →
+pub fields-in : (m : Stream) (url : List ℕ) (at : ℕ) (out after : List ℕ) (p : Result ℕ Refusal) → sound m url ≡ true → at + length (field_bytes m url) ≤ length out →
     wrote p after ≡ fields_in m url at out → after ≡ sets out at (field_bytes m url)
 fields-in m url at out after p h r e =
     cc (e ∙ sym (by-true _ _ _ (sound m url) h (has_room (field_bytes m url) (length (field_bytes m url)) at out r)))

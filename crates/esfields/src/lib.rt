@@ -1,13 +1,11 @@
-#![tactic(auto)]
+#![tactic(auto, unfolding(numbers::specs::Field::when, numbers::specs::Field::field))]
 // The fields of an ES_Descriptor (ISO/IEC 14496-1, 7.2.6.5), of which its flags say which are there (A29).
-ghost use Rattle.std.specs.Prelude.{◌≡◌, ◌+◌, ◌^◌, ◌≤◌, ◌<◌, length, ltb};
-ghost use Rattle.std.proofs.lemmas.List.Edits.{sets};
+ghost use Rattle.std.specs.Prelude.{◌≡◌, ◌+◌, ◌^◌, ◌≤◌, ◌<◌, length, ltb, Ok, Err};
 ghost use Rattle.numbers.specs.Field.{field, when};
-ghost use Rattle.put.specs.Put.{wrote};
+ghost use Rattle.put.specs.Put.{wrote, placed};
 ghost use Rattle.esfields.specs.EsFields.{is_set, wide, fields_of, sound, field_bytes, size_of, fields_in};
 
-use numbers::{Refusal, U8, U16, U32};
-use put::Put;
+use numbers::Refusal;
 
 // The stream's number and flags, the stream that it depends on, and the one that has its clock. A number that the flags
 // leave out is 0.
@@ -17,13 +15,6 @@ pub struct Stream {
     pub flags: u8,
     pub depends_on: u16,
     pub ocr_id: u16,
-}
-
-// The record, where the URL begins and ends, and the position after the fields.
-#[derive(Clone, Copy)]
-pub enum Found {
-    Is(Stream, usize, usize, usize),
-    Refused(Refusal),
 }
 
 const DEPENDS: u8 = 0x80;
@@ -49,81 +40,54 @@ fn width(there: bool, w: usize) -> usize
 // READING
 
 // A number that is there or not; 0 where it is not.
-fn u16_if(s: &[u8], at: usize, there: bool) -> U16
+fn u16_if(s: &[u8], at: usize, there: bool) -> Result<u16, Refusal>
     requires { at ≤ length s.now }
-    ensures { result ≡ field U16.Refused (when there 2 0) s.now at U16.Is }
+    ensures { result ≡ field Err (when there 2 0) s.now at Ok }
 {
     if there {
-        return numbers::u16_at(s, at);
+        return numbers::read::<u16>(s, at);
     }
-    U16::Is(0)
+    Ok(0)
 }
 
-fn u8_if(s: &[u8], at: usize, there: bool) -> U8
+fn u8_if(s: &[u8], at: usize, there: bool) -> Result<u8, Refusal>
     requires { at ≤ length s.now }
-    ensures { result ≡ field U8.Refused (when there 1 0) s.now at U8.Is }
+    ensures { result ≡ field Err (when there 1 0) s.now at Ok }
 {
     if there {
-        return numbers::u8_at(s, at);
+        return numbers::read::<u8>(s, at);
     }
-    U8::Is(0)
+    Ok(0)
 }
 
-// The fields from `at` on, of a descriptor that ends where s does.
-pub fn read(s: &[u8], at: usize) -> Found
+// The fields from `at` on, of a descriptor that ends where s does: the record, where the URL begins and ends, and the
+// position after the fields.
+pub fn read(s: &[u8], at: usize) -> Result<(Stream, usize, usize, usize), Refusal>
     ensures { result ≡ fields_of s.now at }
 {
-    let U16::Is(id) = numbers::u16_at(s, at) else {
-        return Found::Refused(Refusal {
-            number: 1,
-            detail: at,
-        });
-    };
-    let U8::Is(flags) = numbers::u8_at(s, at + 2) else {
-        return Found::Refused(Refusal {
-            number: 1,
-            detail: at + 2,
-        });
-    };
+    let id = numbers::read::<u16>(s, at)?;
+    let flags = numbers::read::<u8>(s, at + 2)?;
     let depends = is_set(flags, DEPENDS);
     let has_url = is_set(flags, URL);
     let has_clock = is_set(flags, CLOCK);
     let first = at + 3;
-    let U16::Is(depends_on) = u16_if(s, first, depends) else {
-        return Found::Refused(Refusal {
-            number: 1,
-            detail: first,
-        });
-    };
+    let depends_on = u16_if(s, first, depends)?;
     let second = first + width(depends, 2);
-    let U8::Is(length) = u8_if(s, second, has_url) else {
-        return Found::Refused(Refusal {
-            number: 1,
-            detail: second,
-        });
-    };
+    let length = u8_if(s, second, has_url)?;
     let url = second + width(has_url, 1);
     if s.len() - url < length as usize {
-        return Found::Refused(Refusal {
-            number: 1,
-            detail: url,
-        });
+        return Err(Refusal::Cut(url));
     }
     let url_end = url + (length as usize);
-    let U16::Is(ocr_id) = u16_if(s, url_end, has_clock) else {
-        return Found::Refused(Refusal {
-            number: 1,
-            detail: url_end,
-        });
-    };
+    let ocr_id = u16_if(s, url_end, has_clock)?;
     let end = url_end + width(has_clock, 2);
     let stream = Stream {
-        id: id,
-        flags: flags,
-        depends_on: depends_on,
-        ocr_id: ocr_id,
+        id,
+        flags,
+        depends_on,
+        ocr_id,
     };
-    Found::Is(stream, url, url_end, end)
+    Ok((stream, url, url_end, end))
 }
 
 // WRITING
@@ -161,63 +125,48 @@ fn is_sound(stream: Stream, url: &[u8]) -> bool
 }
 
 // How many bytes the fields have; 13 where they can not be written.
-pub fn size(stream: Stream, url: &[u8]) -> U32
+#[tactic(auto, using(crate::proofs::Puts::length_fields), unfolding(numbers::specs::Field::when, numbers::specs::Field::field))]
+pub fn size(stream: Stream, url: &[u8]) -> Result<u32, Refusal>
     ensures { result ≡ size_of stream url.now }
 {
     if !is_sound(stream, url) {
-        return U32::Refused(Refusal {
-            number: 13,
-            detail: 0,
-        });
+        return Err(Refusal::Unwritable);
     }
     let depends = width(is_set(stream.flags, DEPENDS), 2);
     let length = width(is_set(stream.flags, URL), 1);
     let clock = width(is_set(stream.flags, CLOCK), 2);
-    U32::Is((3 + depends + length + url.len() + clock) as u32)
+    Ok((3 + depends + length + url.len() + clock) as u32)
 }
 
-fn put_fields(out: &mut [u8], at: usize, stream: Stream, url: &[u8])
-    requires { (at + length (field_bytes stream url.now) ≤ length out.old) × (stream.depends_on < 256 ^ wide stream.flags 0x80 2)
+fn put_fields(out: &mut [u8], at: usize, stream: Stream, url: &[u8]) -> Result<usize, Refusal>
+    requires { (at + 3 + wide stream.flags 0x80 2 + wide stream.flags 0x40 1 + length url.now + wide stream.flags 0x20 2 ≤ length out.old) × (stream.depends_on < 256 ^ wide stream.flags 0x80 2)
         × (length url.now < 256 ^ wide stream.flags 0x40 1) × (stream.ocr_id < 256 ^ wide stream.flags 0x20 2) }
-    ensures { out.new ≡ sets out.old at (field_bytes stream url.now) }
+    ensures { wrote result out.new ≡ placed (field_bytes stream url.now) (length (field_bytes stream url.now)) at out.old }
 {
     let depends = width(is_set(stream.flags, DEPENDS), 2);
     let length = width(is_set(stream.flags, URL), 1);
     let clock = width(is_set(stream.flags, CLOCK), 2);
-    put::u16_at(out, at, stream.id);
-    put::u8_at(out, at + 2, stream.flags);
-    put::number(out, at + 3, depends, stream.depends_on as u64);
+    put::write::<u16>(out, at, stream.id)?;
+    put::write::<u8>(out, at + 2, stream.flags)?;
+    put::number(out, at + 3, depends, stream.depends_on as u64)?;
     let second = at + 3 + depends;
-    put::number(out, second, length, url.len() as u64);
+    put::number(out, second, length, url.len() as u64)?;
     let third = second + length;
-    put::part(out, third, url);
-    put::number(out, third + url.len(), clock, stream.ocr_id as u64);
+    put::part(out, third, url)?;
+    put::number(out, third + url.len(), clock, stream.ocr_id as u64)
 }
 
 // The fields at `at`; 13 where they can not be written.
-pub fn put(out: &mut [u8], at: usize, stream: Stream, url: &[u8]) -> Put
+pub fn put(out: &mut [u8], at: usize, stream: Stream, url: &[u8]) -> Result<usize, Refusal>
     ensures { wrote result out.new ≡ fields_in stream url.now at out.old }
 {
-    let U32::Is(n) = size(stream, url) else {
-        return Put::Refused(Refusal {
-            number: 13,
-            detail: 0,
-        });
-    };
-    let length = n as usize;
+    let length = size(stream, url)? as usize;
     if 0xffff_ffff_ffff_ffff - length < at {
-        return Put::Refused(Refusal {
-            number: 9,
-            detail: 0,
-        });
+        return Err(Refusal::Overflow);
     }
     let end = at + length;
     if out.len() < end {
-        return Put::Refused(Refusal {
-            number: 12,
-            detail: end,
-        });
+        return Err(Refusal::TooSmall(end));
     }
-    put_fields(out, at, stream, url);
-    Put::Done(end)
+    put_fields(out, at, stream, url)
 }

@@ -1,4 +1,3 @@
-mod Cases
 pub mod Rates
 mod Vectors
 mod Unique

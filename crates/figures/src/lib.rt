@@ -1,4 +1,4 @@
-#![tactic(auto)]
+#![tactic(auto, unfolding(numbers::specs::Field::when, numbers::specs::Field::field))]
 // What a track tells of itself, in twelve words.
 ghost use Rattle.std.specs.Prelude.{◌≡◌, [], ◌∷◌, ◌+◌, ◌≤◌, length};
 ghost use Rattle.std.proofs.lemmas.List.Edits.{sets};
@@ -8,8 +8,7 @@ ghost use Rattle.trak_boxes.specs.TrakBoxes.{hdlr_in};
 ghost use Rattle.figures.specs.Words.{figures_by, by_hdlr, told_of, word_count, words_of, figures_of};
 
 use mdhd::Mdhd;
-use numbers::{Refusal, U32, U64};
-use samples::Listed;
+use numbers::Refusal;
 use tkhd::Tkhd;
 
 // The duration is in units of the timescale; width and height are raw 16.16; handler and entry are four letters each, the
@@ -28,13 +27,6 @@ pub struct Figures {
     pub width: u64,
     pub height: u64,
     pub language: u64,
-}
-
-// The figures, or the first refusal.
-#[derive(Clone, Copy)]
-pub enum Told {
-    Is(Figures),
-    Refused(Refusal),
 }
 
 // How many words there are.
@@ -71,9 +63,9 @@ fn build(
         entry: entry as u64,
         timescale: media.timescale as u64,
         duration: media.duration,
-        micros: micros,
+        micros,
         samples: samples as u64,
-        bytes: bytes,
+        bytes,
         frames: frames(samples, micros / 1000),
         width: head.width as u64,
         height: head.height as u64,
@@ -82,39 +74,22 @@ fn build(
 }
 
 // What comes behind the tkhd and the mdhd: the handler, the sample entry and the duration.
-fn rest(trak: &[u8], head: Tkhd, media: Mdhd, samples: u32, bytes: u64) -> Told
+fn rest(trak: &[u8], head: Tkhd, media: Mdhd, samples: u32, bytes: u64) -> Result<Figures, Refusal>
     ensures { result ≡ by_hdlr trak.now head media samples bytes (hdlr_in trak.now) }
 {
-    match trak_boxes::hdlr(trak) {
-        hdlr::Found::Refused(third) => Told::Refused(third),
-        hdlr::Found::Is(d) => match trak_boxes::entry_kind(trak) {
-            U32::Refused(fourth) => Told::Refused(fourth),
-            U32::Is(entry) => match duration::micros(media.duration, media.timescale) {
-                U64::Refused(fifth) => Told::Refused(fifth),
-                U64::Is(micros) => Told::Is(build(
-                    head,
-                    media,
-                    d.handler_type,
-                    entry,
-                    micros,
-                    samples,
-                    bytes,
-                )),
-            },
-        },
-    }
+    let d = trak_boxes::hdlr(trak)?;
+    let entry = trak_boxes::entry_kind(trak)?;
+    let micros = duration::micros(media.duration, media.timescale)?;
+    Ok(build(head, media, d.handler_type, entry, micros, samples, bytes))
 }
 
-fn gather(trak: &[u8], samples: u32, bytes: u64) -> Told
+#[tactic(auto, unfolding(numbers::specs::Field::when, numbers::specs::Field::field, crate::specs::Words::told_of))]
+fn gather(trak: &[u8], samples: u32, bytes: u64) -> Result<Figures, Refusal>
     ensures { result ≡ told_of trak.now samples bytes }
 {
-    match trak_boxes::tkhd(trak) {
-        tkhd::Found::Refused(first) => Told::Refused(first),
-        tkhd::Found::Is(head) => match trak_boxes::mdhd(trak) {
-            mdhd::Found::Refused(second) => Told::Refused(second),
-            mdhd::Found::Is(media) => rest(trak, head, media, samples, bytes),
-        },
-    }
+    let head = trak_boxes::tkhd(trak)?;
+    let media = trak_boxes::mdhd(trak)?;
+    rest(trak, head, media, samples, bytes)
 }
 
 // Six words, from place `at` on.
@@ -151,21 +126,14 @@ fn put(out: &mut [u64], x: Figures)
 }
 
 // The figures of the track of a trak with so many samples of so many bytes, as words at the start of the buffer; or the
-// buffer as it was, and what is refused of the tkhd, the mdhd, the hdlr, the sample entry or the duration, then 12.
-pub fn of(trak: &[u8], samples: u32, bytes: u64, out: &mut [u64]) -> Listed
+// buffer as it was, and what is refused of the tkhd, the mdhd, the hdlr, the sample entry or the duration, then TooSmall.
+pub fn of(trak: &[u8], samples: u32, bytes: u64, out: &mut [u64]) -> Result<usize, Refusal>
     ensures { output result out.new ≡ figures_of trak.now samples bytes out.old }
 {
-    match gather(trak, samples, bytes) {
-        Told::Refused(q) => Listed::Refused(q),
-        Told::Is(figures) => {
-            if out.len() < WORDS {
-                return Listed::Refused(Refusal {
-                    number: 12,
-                    detail: WORDS,
-                });
-            }
-            put(out, figures);
-            Listed::Done(WORDS)
-        }
+    let figures = gather(trak, samples, bytes)?;
+    if out.len() < WORDS {
+        return Err(Refusal::TooSmall(WORDS));
     }
+    put(out, figures);
+    Ok(WORDS)
 }

@@ -1,5 +1,5 @@
 pub mod Steps
-pub mod Answers
+pub mod Walked
 pub mod Laws
 pub mod Vectors
 mod Unique

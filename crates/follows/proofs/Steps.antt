@@ -1,4 +1,5 @@
 -- One law for each return of the walk, over plain variables. Assumes nothing.
+use Rattle.std.specs.Prelude.{Option, Some, None}
 use Rattle.std.proofs.Common.{◌≡◌, ℕ, zero, suc, ◌+◌, ◌^◌, ◌<◌, ◌≤◌, min, Bool, true, false, ◌&&◌, eqb, ltb, List, [], ◌∷◌, length, get_or, take, drop, set, ℤ, pos, negsuc, sym, refl, ap, ◌∙◌, subst, ap₂, arith, to_z-of_z, w64, SFits, to_z, of_z, ltb-false, ltb-true, eq-eqb, ne_eqb}
 use lib.IntN.{sub_ℕ}
 use Rattle.numbers.specs.Field.{when}
@@ -8,16 +9,10 @@ use Rattle.tables.proofs.Lists.{list-cons, list-nil, length-list}
 use Rattle.runs.specs.Samples.{durations_in}
 use Rattle.runs.specs.declared.Run.{Run}
 use Rattle.runtable.specs.Table as runs
-use Rattle.runtable.specs.declared.Found as run-found
-use Rattle.runtable.specs.declared.Found.TheVariants as run_is
 use Rattle.fragments.proofs.Cases as rows
 use Rattle.mooftable.specs.declared.Moof as row
 use Rattle.mooftable.specs.Table as moofs
-use Rattle.mooftable.specs.declared.Found as moof-found
-use Rattle.mooftable.specs.declared.Found.TheVariants as moof-is
 use Rattle.gaps.specs.Gaps as gaps
-use Rattle.gaps.specs.declared.Gap.{Gap}
-use Rattle.gaps.specs.declared.Gap.TheVariants as gap
 use Rattle.verdicts.specs.declared.Finding.{Finding}
 use Rattle.verdicts.specs.Findings.{F7, F8}
 use Rattle.verdicts.specs.Fragments.{due, next_number}
@@ -28,6 +23,7 @@ use Rattle.follows.specs.declared.Walk.{Walk}
 use Rattle.follows.specs.declared.Walks.{Walks}
 use Rattle.follows.specs.declared.Followed.{Followed}
 use Rattle.follows.specs.declared.Followed.TheVariants.{Over, Passes, Found}
+use Rattle.mooftable.specs.declared.Moof.{Moof}
 
 -- ONE ANSWER AFTER ANOTHER
 
@@ -71,24 +67,24 @@ is-not-zero (negsuc n) h = refl
 
 -- a gap has 64 bits, so it is 0 where its bits are
 
-fits-64 : (z : ℤ) (g : ℤ) → gaps.signed64 z ≡ gap.Is g → SFits w64 g
+fits-64 : (z : ℤ) (g : ℤ) → gaps.signed64 z ≡ Some g → SFits w64 g
 unfolding when
 fits-64 (pos n) g = cases (ltb n (2 ^ 63)) refl
   where
-    cases : (x : Bool) → ltb n (2 ^ 63) ≡ x → when x (gap.Is (pos n)) gap.Over ≡ gap.Is g → SFits w64 g
+    cases : (x : Bool) → ltb n (2 ^ 63) ≡ x → when x (Some (pos n)) None ≡ Some g → SFits w64 g
     cases true h e = let q : pos n ≡ g = cc in subst (SFits w64) q (record { sfits = omega (arith, ltb-true n (2 ^ 63) h) })
     cases false h e = let z : ◌≡◌ {A = ℕ} 0 1 = cc in absurd (omega arith)
 fits-64 (negsuc n) g = cases (ltb n (2 ^ 63)) refl
   where
-    cases : (x : Bool) → ltb n (2 ^ 63) ≡ x → when x (gap.Is (negsuc n)) gap.Over ≡ gap.Is g → SFits w64 g
+    cases : (x : Bool) → ltb n (2 ^ 63) ≡ x → when x (Some (negsuc n)) None ≡ Some g → SFits w64 g
     cases true h e = let q : negsuc n ≡ g = cc in subst (SFits w64) q (record { sfits = omega (arith, ltb-true n (2 ^ 63) h) })
     cases false h e = let z : ◌≡◌ {A = ℕ} 0 1 = cc in absurd (omega arith)
 
-gap-fits : (b l t : ℕ) (g : ℤ) → gaps.gap_of b l t ≡ gap.Is g → SFits w64 g
+gap-fits : (b l t : ℕ) (g : ℤ) → gaps.gap_of b l t ≡ Some g → SFits w64 g
 unfolding gaps.gap_of when
 gap-fits b l t g = cases (ltb b (2 ^ 63) && ltb t (2 ^ 63))
   where
-    cases : (x : Bool) → when x (gaps.signed64 (sub_ℕ t (b + l))) gap.Over ≡ gap.Is g → SFits w64 g
+    cases : (x : Bool) → when x (gaps.signed64 (sub_ℕ t (b + l))) None ≡ Some g → SFits w64 g
     cases true e = fits-64 (sub_ℕ t (b + l)) g e
     cases false e = let z : ◌≡◌ {A = ℕ} 0 1 = cc in absurd (omega arith)
 
@@ -100,16 +96,16 @@ module _ (a : Followed) (b : Before) (time t at : ℕ) where
   unfolding time_asked
   timed-free e = still a _ (sym (by-false (gap_asked (gaps.gap_of b.time b.lasts time) t at) Passes Passes b.some e refl))
 
-  module _ (h : b.some ≡ true) (q : Gap) (e : q ≡ gaps.gap_of b.time b.lasts time) where
+  module _ (h : b.some ≡ true) (q : Option ℤ) (e : q ≡ gaps.gap_of b.time b.lasts time) where
     by-gap : (x : Followed) → x ≡ gap_asked q t at → x ≡ time_asked b time t at
     unfolding time_asked
     by-gap x k = by-true _ Passes x b.some h (k ∙ ap (λ y. gap_asked y t at) e)
 
-    pub timed-over : q ≡ gap.Over → Over ≡ joined a (time_asked b time t at)
+    pub timed-over : q ≡ None → Over ≡ joined a (time_asked b time t at)
     unfolding gap_asked
     timed-over k = sym (join-over a) ∙ ap (joined a) (by-gap Over (sym (ap (λ y. gap_asked y t at) k)))
 
-    module _ (g : ℤ) (k : q ≡ gap.Is g) where
+    module _ (g : ℤ) (k : q ≡ Some g) where
       pub timed-right : of_z w64 g ≡ 0 → a ≡ joined a (time_asked b time t at)
       unfolding gap_asked
       timed-right z =
@@ -167,11 +163,11 @@ module _ (f : List ℕ) (t at : ℕ) (tb : List ℕ) (n i : ℕ) (b : Before) (a
   pub runs_done : n ≤ i → walked b a ≡ all
   runs_done h = no-runs (list-nil (runs.row_at tb) (min n (runs.holds tb)) i (omega arith))
 
-  module _ (q : run-found.Found) (e : q ≡ runs.row_of tb i) where
-    pub run-missing : q ≡ run_is.Missing → walked b a ≡ all
+  module _ (q : Option Run) (e : q ≡ runs.row_of tb i) where
+    pub run-missing : q ≡ None → walked b a ≡ all
     run-missing h = no-runs (list-nil (runs.row_at tb) (min n (runs.holds tb)) i (omega (arith, rows.row-not tb i q e h)))
 
-    pub run-next : i < n → (r : Run) → q ≡ run_is.Is r → (w : Walk) → w ≡ after_run f t at r (walked b a)
+    pub run-next : i < n → (r : Run) → q ≡ Some r → (w : Walk) → w ≡ after_run f t at r (walked b a)
         → after_runs f t at (drop (i + 1) (runs.rows_of tb n)) (walked w.before w.told) ≡ all
     run-next h r er w ew =
         let k = rows.row_is tb i q e r er in
@@ -193,20 +189,20 @@ module _ (f : List ℕ) (at : ℕ) (rs : List Run) (ns : List ℕ) (n k : ℕ) (
 
 -- WHERE A MOOF'S RUNS END
 
-module _ (tb : List ℕ) (i : ℕ) (q : moof-found.Found) (e : q ≡ moofs.row_of tb i) where
-  pub moof-is-there : (m : row.Moof) → q ≡ moof-is.Is m → (i < moofs.holds tb) × (m ≡ moofs.row_at tb i)
+module _ (tb : List ℕ) (i : ℕ) (q : Option Moof) (e : q ≡ moofs.row_of tb i) where
+  pub moof-is-there : (m : row.Moof) → q ≡ Some m → (i < moofs.holds tb) × (m ≡ moofs.row_at tb i)
   unfolding when
   moof-is-there m h = cases (ltb i (moofs.holds tb)) refl e
     where
-      cases : (b : Bool) → ltb i (moofs.holds tb) ≡ b → q ≡ when b (moof-is.Is (moofs.row_at tb i)) moof-is.Missing → (i < moofs.holds tb) × (m ≡ moofs.row_at tb i)
+      cases : (b : Bool) → ltb i (moofs.holds tb) ≡ b → q ≡ when b (Some (moofs.row_at tb i)) None → (i < moofs.holds tb) × (m ≡ moofs.row_at tb i)
       cases true g d = (ltb-true i (moofs.holds tb) g, cc)
       cases false g d = let z : ◌≡◌ {A = ℕ} 0 1 = cc in absurd (omega arith)
 
-  pub moof-is-not : q ≡ moof-is.Missing → moofs.holds tb ≤ i
+  pub moof-is-not : q ≡ None → moofs.holds tb ≤ i
   unfolding when
   moof-is-not h = cases (ltb i (moofs.holds tb)) refl e
     where
-      cases : (b : Bool) → ltb i (moofs.holds tb) ≡ b → q ≡ when b (moof-is.Is (moofs.row_at tb i)) moof-is.Missing → moofs.holds tb ≤ i
+      cases : (b : Bool) → ltb i (moofs.holds tb) ≡ b → q ≡ when b (Some (moofs.row_at tb i)) None → moofs.holds tb ≤ i
       cases true g d = let z : ◌≡◌ {A = ℕ} 0 1 = cc in absurd (omega arith)
       cases false g d = ltb-false i (moofs.holds tb) g
 
@@ -217,14 +213,14 @@ module _ (tb : List ℕ) (n i rows : ℕ) where
   pub last-of-all : n ≤ i → rows ≡ last_row rows (drop i (moofs.rows_of tb n))
   last-of-all h = sym (ap (last_row rows) (past-moofs h))
 
-  module _ (q : moof-found.Found) (e : q ≡ moofs.row_of tb i) where
-    pub no-moof : q ≡ moof-is.Missing → drop i (moofs.rows_of tb n) ≡ []
+  module _ (q : Option Moof) (e : q ≡ moofs.row_of tb i) where
+    pub no-moof : q ≡ None → drop i (moofs.rows_of tb n) ≡ []
     no-moof h = list-nil (moofs.row_at tb) (min n (moofs.holds tb)) i (omega (arith, moof-is-not tb i q e h))
 
-    pub last-missing : q ≡ moof-is.Missing → rows ≡ last_row rows (drop i (moofs.rows_of tb n))
+    pub last-missing : q ≡ None → rows ≡ last_row rows (drop i (moofs.rows_of tb n))
     last-missing h = sym (ap (last_row rows) (no-moof h))
 
-    module _ (h : i < n) (m : row.Moof) (k : q ≡ moof-is.Is m) where
+    module _ (h : i < n) (m : row.Moof) (k : q ≡ Some m) where
       pub this-moof : drop i (moofs.rows_of tb n) ≡ m ∷ drop (i + 1) (moofs.rows_of tb n)
       this-moof =
           let w = moof-is-there tb i q e m k in
@@ -263,11 +259,11 @@ module _ (f tb : List ℕ) (rows : ℕ) (ts : List ℕ) (mb : List ℕ) (n i : �
   pub moofs-done : n ≤ i → a ≡ all
   moofs-done h = no-moofs (past-moofs mb n i 0 h)
 
-  module _ (q : moof-found.Found) (e : q ≡ moofs.row_of mb i) where
-    pub moof-missing : q ≡ moof-is.Missing → a ≡ all
+  module _ (q : Option Moof) (e : q ≡ moofs.row_of mb i) where
+    pub moof-missing : q ≡ None → a ≡ all
     moof-missing h = no-moofs (no-moof mb n i 0 q e h)
 
-    pub moof-next : i < n → (m : row.Moof) → q ≡ moof-is.Is m → (to : ℕ) → to ≡ last_row rows (drop (i + 1) (moofs.rows_of mb n))
+    pub moof-next : i < n → (m : row.Moof) → q ≡ Some m → (to : ℕ) → to ≡ last_row rows (drop (i + 1) (moofs.rows_of mb n))
         → (c : Followed) → c ≡ joined a (number_asked (due_by s d) m) → (w : Walks) → w ≡ after_tracks f m.start (drop m.runs (runs.rows_of tb to)) 0 ts (walks bs c)
         → (u : ℕ) → u ≡ next_number m.number
         → (after_moofs f (runs.rows_of tb rows) ts (due_by true u) (drop (i + 1) (moofs.rows_of mb n)) (walks w.befores w.told)).told ≡ all

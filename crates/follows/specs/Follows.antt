@@ -1,13 +1,11 @@
 -- Whether the fragments of a file follow on, F7 and F8 (01, Fragments; A34, A42), by the rows of its moofs and of its runs.
 -- Before a finding comes that a gap has no 64 signed bits (A13, refusal 9). Assumes nothing.
-use Rattle.std.specs.Prelude.{ℕ, Bool, true, false, ◌&&◌, List, [], ◌∷◌, length, take, drop, slice_index}
+use Rattle.std.specs.Prelude.{ℕ, ℤ, Bool, true, false, ◌&&◌, List, [], ◌∷◌, length, take, drop, slice_index, Option, Some, None}
 use Rattle.numbers.specs.Field.{when}
 use Rattle.tables.specs.Tables.{listed}
 use Rattle.runs.specs.Samples.{durations_in}
 use Rattle.runs.specs.declared.Run.{Run}
 use Rattle.gaps.specs.Gaps as gaps
-use Rattle.gaps.specs.declared.Gap.{Gap}
-use Rattle.gaps.specs.declared.Gap.TheVariants as gap
 use Rattle.mooftable.specs.declared.Moof as row
 use Rattle.verdicts.specs.Findings.{Track, track, Answer, passes, found, first_found}
 use Rattle.verdicts.specs.Fragments.{Traf, Moof, Clock, free, follow_from}
@@ -54,9 +52,9 @@ clocks (n ∷ ns) = record { track = n; next = free } ∷ clocks ns
 
 -- GAPS
 
-abbrev pub fits_in64 : Gap → Bool
-fits_in64 (gap.Is g) = true
-fits_in64 gap.Over = false
+abbrev pub fits_in64 : Option ℤ → Bool
+fits_in64 (Some g) = true
+fits_in64 None = false
 
 -- the gaps of a track's trafs fit, behind one that began then and lasts so long
 abbrev pub fit_behind : ℕ → ℕ → List Traf → Bool

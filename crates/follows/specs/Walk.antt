@@ -1,12 +1,10 @@
 -- The walk that answers in one pass, as a fold over moofs, tracks and runs. `walk-answers` (proofs/Answers.antt) says that it
 -- gives `followed_of`. Assumes nothing.
-use Rattle.std.specs.Prelude.{ℕ, ◌+◌, min, Bool, true, false, List, [], ◌∷◌, ℤ, pos, negsuc, ◌==◌, slice_index_or, slice_set}
+use Rattle.std.specs.Prelude.{ℕ, ◌+◌, min, Bool, true, false, List, [], ◌∷◌, ℤ, pos, negsuc, ◌==◌, slice_index_or, slice_set, Option, Some, None}
 use Rattle.numbers.specs.Field.{when}
 use Rattle.runs.specs.Samples.{durations_in}
 use Rattle.runs.specs.declared.Run.{Run}
 use Rattle.gaps.specs.Gaps as gaps
-use Rattle.gaps.specs.declared.Gap.{Gap}
-use Rattle.gaps.specs.declared.Gap.TheVariants as gap
 use Rattle.mooftable.specs.declared.Moof as row
 use Rattle.verdicts.specs.Findings.{F7, F8}
 use Rattle.verdicts.specs.Fragments.{Due, free, due, fits, next_number}
@@ -30,9 +28,9 @@ is_zero (pos n) = n == 0
 is_zero (negsuc n) = false
 
 -- F8, by the gap
-unfoldable pub gap_asked : Gap → ℕ → ℕ → Followed
-gap_asked gap.Over t at = Over
-gap_asked (gap.Is g) t at = when (is_zero g) Passes (Found (F8 t at g))
+unfoldable pub gap_asked : Option ℤ → ℕ → ℕ → Followed
+gap_asked None t at = Over
+gap_asked (Some g) t at = when (is_zero g) Passes (Found (F8 t at g))
 
 unfoldable pub time_asked : Before → ℕ → ℕ → ℕ → Followed
 time_asked b time t at = when b.some (gap_asked (gaps.gap_of b.time b.lasts time) t at) Passes

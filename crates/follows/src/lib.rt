@@ -1,4 +1,4 @@
-#![tactic(auto)]
+#![tactic(auto, unfolding(numbers::specs::Field::when, numbers::specs::Field::field))]
 // Whether fragments follow on, in number and in time (01, Fragments; A34, A42): by the moofs and the runs of a file, which
 // are lent as tables (crates `mooftable` and `runtable`). One pass, moof by moof: first its number, then the times by track.
 // The first finding is kept and the walk goes on, since a gap further on may not fit (A13).
@@ -10,12 +10,11 @@ ghost use Rattle.follows.specs.Follows.{numbers_in, followed_of};
 ghost use Rattle.follows.specs.Walk.{joined, time_asked, number_asked, due_by, walked, after_run, after_runs, walks, after_tracks, last_row};
 ghost use Rattle.follows.specs.declared.Followed.TheVariants as followed;
 
-use gaps::Gap;
 use mooftable::Moof;
 use runs::Run;
 use verdicts::Finding;
 
-// Over: a gap does not fit 64 signed bits (refusal 9).
+// Over: a gap does not fit 64 signed bits.
 #[derive(Clone, Copy)]
 pub enum Followed {
     Over,
@@ -62,10 +61,10 @@ fn then_timed(told: Followed, before: Before, time: u64, track: u32, at: u64) ->
 {
     if before.some {
         match gaps::between(before.time, before.lasts, time) {
-            Gap::Over => {
+            None => {
                 return Followed::Over;
             }
-            Gap::Is(gap) => {
+            Some(gap) => {
                 if gap == 0 {
                     return told;
                 }
@@ -73,10 +72,10 @@ fn then_timed(told: Followed, before: Before, time: u64, track: u32, at: u64) ->
                     told,
                     Finding {
                         number: 8,
-                        track: track,
+                        track,
                         sample: 0,
                         position: at,
-                        gap: gap,
+                        gap,
                     },
                 );
             }
@@ -99,10 +98,7 @@ fn step(file: &[u8], run: Run, track: u32, at: u64, before: Before, told: Follow
             },
         };
     }
-    Walk {
-        before: before,
-        told: told,
-    }
+    Walk { before, told }
 }
 
 // What is known of a track behind the runs from row `from` up to and not with row `to`.
@@ -122,7 +118,7 @@ fn in_track(
     let mut so_far = told;
     let mut i = from;
     while i < to {
-        let runtable::Found::Is(run) = runtable::row(runs, i) else {
+        let Some(run) = runtable::row(runs, i) else {
             return Walk {
                 before: last,
                 told: so_far,
@@ -206,7 +202,7 @@ fn last_row(moofs: &[u64], n: usize, i: usize, rows: usize) -> usize
     if n <= i {
         return rows;
     }
-    let mooftable::Found::Is(next) = mooftable::row(moofs, i) else {
+    let Some(next) = mooftable::row(moofs, i) else {
         return rows;
     };
     if next.runs < rows {
@@ -245,7 +241,7 @@ pub fn follow(
     let mut due: u32 = 0;
     let mut i = 0;
     while i < n {
-        let mooftable::Found::Is(moof) = mooftable::row(moofs, i) else {
+        let Some(moof) = mooftable::row(moofs, i) else {
             return told;
         };
         i += 1;

@@ -1,4 +1,5 @@
 -- One law for each return of the lane, over plain variables. Assumes nothing.
+use Rattle.std.specs.Prelude.{Option, Some, None}
 use Prim.Native.Nat.{ℕ, ◌+◌, ◌≤◌, ◌<◌, min}
 use mathlib.Core.Path.{◌≡◌, refl, sym, ap, ap₂, ◌∙◌}
 use mathlib.Core.List.{List, [], ◌∷◌, ◌++◌}
@@ -21,13 +22,11 @@ use Rattle.runs.proofs.Left.{left-begun, how-many-left, how-many}
 use Rattle.runtable.specs.Table.{row_at, row_of, rows_of, holds}
 use Rattle.fragments.specs.Samples.{count_of, mine, samples_after}
 use Rattle.fragments.specs.Lane.{left, shows}
-use Rattle.runtable.specs.declared.Found.{Found}
 use Rattle.fragments.specs.declared.Lane.{Lane}
 use Rattle.runs.specs.Lane as run
 use Rattle.runs.specs.declared.Lane as inside
 use Rattle.runs.specs.declared.Taken as step
 use Rattle.runs.specs.declared.Taken.TheVariants as step_is
-use Rattle.runtable.specs.declared.Found.TheVariants as found
 use Rattle.fragments.specs.declared.Taken.TheVariants as taken
 
 -- what a list shows, another list shows that has more behind it
@@ -74,20 +73,20 @@ module _ (f : List ℕ) (t n : ℕ) (r : Run) where
 
 -- ROWS
 
-module _ (tb : List ℕ) (i : ℕ) (q : Found) (e : q ≡ row_of tb i) where
-  pub row_is : (r : Run) → q ≡ found.Is r → (i < holds tb) × (r ≡ row_at tb i)
+module _ (tb : List ℕ) (i : ℕ) (q : Option Run) (e : q ≡ row_of tb i) where
+  pub row_is : (r : Run) → q ≡ Some r → (i < holds tb) × (r ≡ row_at tb i)
   unfolding when
   row_is r h = cases (ltb i (holds tb)) refl e
     where
-      cases : (b : Bool) → ltb i (holds tb) ≡ b → q ≡ when b (found.Is (row_at tb i)) found.Missing → (i < holds tb) × (r ≡ row_at tb i)
+      cases : (b : Bool) → ltb i (holds tb) ≡ b → q ≡ when b (Some (row_at tb i)) None → (i < holds tb) × (r ≡ row_at tb i)
       cases true g d = (ltb-true i (holds tb) g, cc)
       cases false g d = let z : ◌≡◌ {A = ℕ} 0 1 = cc in absurd (omega arith)
 
-  pub row-not : q ≡ found.Missing → holds tb ≤ i
+  pub row-not : q ≡ None → holds tb ≤ i
   unfolding when
   row-not h = cases (ltb i (holds tb)) refl e
     where
-      cases : (b : Bool) → ltb i (holds tb) ≡ b → q ≡ when b (found.Is (row_at tb i)) found.Missing → holds tb ≤ i
+      cases : (b : Bool) → ltb i (holds tb) ≡ b → q ≡ when b (Some (row_at tb i)) None → holds tb ≤ i
       cases true g d = let z : ◌≡◌ {A = ℕ} 0 1 = cc in absurd (omega arith)
       cases false g d = ltb-false i (holds tb) g
 
@@ -99,11 +98,11 @@ module _ (f tb : List ℕ) (n t k i : ℕ) (ss : List Sample) (inv : samples_aft
   pub rows-done : n ≤ i → none ≡ view ss
   rows-done h = no_rows (list-nil (row_at tb) (min n (holds tb)) i (omega arith))
 
-  module _ (q : Found) (e : q ≡ row_of tb i) where
-    pub row-missing : q ≡ found.Missing → none ≡ view ss
+  module _ (q : Option Run) (e : q ≡ row_of tb i) where
+    pub row-missing : q ≡ None → none ≡ view ss
     row-missing h = no_rows (list-nil (row_at tb) (min n (holds tb)) i (omega (arith, row-not tb i q e h)))
 
-    module _ (h : i < n) (r : Run) (er : q ≡ found.Is r) (s : step.Taken) (es : run.shows f r s ≡ view (mine f t r k)) (en : run.up_to_by r s (k + count_of t r) ≡ k + count_of t r) where
+    module _ (h : i < n) (r : Run) (er : q ≡ Some r) (s : step.Taken) (es : run.shows f r s ≡ view (mine f t r k)) (en : run.up_to_by r s (k + count_of t r) ≡ k + count_of t r) where
       this : samples_after f t k (r ∷ drop (i + 1) (rows_of tb n)) ≡ ss
       this =
           let w = row_is tb i q e r er in

@@ -1,4 +1,4 @@
-#![tactic(auto)]
+#![tactic(auto, unfolding(numbers::specs::Field::when, numbers::specs::Field::field))]
 // The samples of one track of a fragmented file: those of its runs, one run after the other. The runs of a file are lent
 // as a table (crate `runtable`), of all tracks, in the order of the file. A lane passes over the rows of other tracks and
 // visits each row once.
@@ -10,7 +10,6 @@ ghost use Rattle.fragments.specs.Samples.{mine, count_of, samples_after};
 ghost use Rattle.fragments.specs.Lane.{fresh, left, shows};
 
 use runs::Run;
-use runtable::Found;
 use samples::Sample;
 use trun::Trun;
 
@@ -22,7 +21,7 @@ pub struct Lane {
     pub inside: runs::Lane,
 }
 
-// Over: a sample's end passes 2^64 - 1, its time is 2^63 or more, or its number passes 2^32 - 1 (refusal 9).
+// Over: a sample's end passes 2^64 - 1, its time is 2^63 or more, or its number passes 2^32 - 1.
 #[derive(Clone, Copy)]
 pub enum Taken {
     One { sample: Sample, lane: Lane },
@@ -79,17 +78,17 @@ fn refill(file: &[u8], table: &[u64], count: usize, track: u32, number: u32, fro
 {
     let mut i = from;
     while i < count {
-        let Found::Is(run) = runtable::row(table, i) else {
+        let Some(run) = runtable::row(table, i) else {
             return Taken::End;
         };
         i += 1;
         match first(file, run, track, number) {
             runs::Taken::One { sample, lane } => {
                 return Taken::One {
-                    sample: sample,
+                    sample,
                     lane: Lane {
                         next: i,
-                        run: run,
+                        run,
                         inside: lane,
                     },
                 };
@@ -114,10 +113,10 @@ pub fn next(file: &[u8], table: &[u64], count: usize, track: u32, lane: Lane) ->
             sample,
             lane: further,
         } => Taken::One {
-            sample: sample,
+            sample,
             lane: Lane {
                 next: lane.next,
-                run: run,
+                run,
                 inside: further,
             },
         },

@@ -29,18 +29,18 @@ pub(crate) fn finding(rt: &impl Print, f: Finding) -> bool {
 
 // What is missing has a name, what is wrong a position.
 fn detail(rt: &impl Print, q: Refusal) -> bool {
-    if q.number == 5 {
-        return say::letters(rt, (q.detail % 0x1_0000_0000) as u32);
+    match q {
+        Refusal::Missing(kind) => say::letters(rt, kind),
+        _ => say::number(rt, q.detail() as u64),
     }
-    say::number(rt, q.detail as u64)
 }
 
 pub(crate) fn refusal(rt: &impl Print, q: Refusal) -> bool {
-    say::field(rt, b"refused ", q.number as u64)
+    say::field(rt, b"refused ", u64::from(q.code()))
         & say::text(rt, b" detail=")
         & detail(rt, q)
         & say::text(rt, b" (")
-        & meanings::refusal(rt, q.number)
+        & meanings::refusal(rt, q.code())
         & say::text(rt, b")\n")
 }
 

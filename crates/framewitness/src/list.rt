@@ -3,9 +3,8 @@
 use crate::say;
 use contents::held::SAMPLES;
 use kin::TRACKS;
-use moofs::Filled;
+use numbers::Refusal;
 use samples::Sample;
-use stbl::Found;
 use tables::Track;
 use tree::Scanned;
 
@@ -76,7 +75,7 @@ fn of_track(
     rt: &impl Print,
     file: &[u8],
     number: u32,
-    found: Found,
+    found: Result<Track, Refusal>,
     runs: &[u64],
     rows: usize,
     fragmented: bool,
@@ -85,8 +84,8 @@ fn of_track(
         return of_runs(rt, file, number, runs, rows);
     }
     match found {
-        Found::Refused(_) => false,
-        Found::Is(track) => of_tables(rt, file, number, track),
+        Err(_) => false,
+        Ok(track) => of_tables(rt, file, number, track),
     }
 }
 
@@ -132,11 +131,8 @@ fn of_boxes(
     match moofs::fill(
         file, n, starts, sizes, kinds, parents, placed, &mut runs, &mut moofs,
     ) {
-        Filled::Refused(_) => false,
-        Filled::Are {
-            runs: rows,
-            moofs: many,
-        } => of_tracks(
+        Err(_) => false,
+        Ok(filled) => of_tracks(
             rt,
             file,
             n,
@@ -146,8 +142,8 @@ fn of_boxes(
             parents,
             placed,
             &runs,
-            rows,
-            0 < many,
+            filled.runs,
+            0 < filled.moofs,
         ),
     }
 }

@@ -15,7 +15,7 @@ mod source;
 ghost use Rattle.std.specs.Prelude.{◌≡◌, ◌≤◌, length};
 
 use call::{Call, Misuse};
-use source::{MOST, Source, Unread};
+use source::{MOST, Unread};
 use std::env::{Env, FillError};
 use std::fs;
 use std::fs::OpenOptions;
@@ -130,8 +130,8 @@ fn answer_source<F: Read + Seek>(
     room: &mut [u8],
 ) -> u8 {
     match source::of(file) {
-        Source::Sized(size) => answer_sized(rt, task, name, file, size, room),
-        Source::Not(why) => not_read(rt, name, why),
+        Ok(size) => answer_sized(rt, task, name, file, size, room),
+        Err(why) => not_read(rt, name, why),
     }
 }
 

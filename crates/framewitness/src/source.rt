@@ -14,12 +14,6 @@ pub(crate) enum Unread {
     NotWhole,
 }
 
-#[derive(Clone, Copy)]
-pub(crate) enum Source {
-    Sized(usize),
-    Not(Unread),
-}
-
 // A pipe or a terminal has no positions. Its bytes are not touched.
 fn has_positions(file: &mut impl Seek) -> bool {
     file.seek(SeekFrom::Current(0)).is_ok()
@@ -38,25 +32,25 @@ fn unreadable(error: io::Error) -> Unread {
 }
 
 // The number of bytes, and the position back at the first of them.
-fn sized(file: &mut impl Seek) -> Source {
+fn sized(file: &mut impl Seek) -> Result<usize, Unread> {
     let Ok(size) = file.seek(SeekFrom::End(0)) else {
-        return Source::Not(Unread::NotWhole);
+        return Err(Unread::NotWhole);
     };
     if size > MOST as u64 {
-        return Source::Not(Unread::TooLarge);
+        return Err(Unread::TooLarge);
     }
     match file.seek(SeekFrom::Start(0)) {
-        Ok(0) => Source::Sized(size as usize),
-        _ => Source::Not(Unread::NotWhole),
+        Ok(0) => Ok(size as usize),
+        _ => Err(Unread::NotWhole),
     }
 }
 
-pub(crate) fn of<F: Read + Seek>(file: &mut F) -> Source {
+pub(crate) fn of<F: Read + Seek>(file: &mut F) -> Result<usize, Unread> {
     if !has_positions(file) {
-        return Source::Not(Unread::NoFile);
+        return Err(Unread::NoFile);
     }
     if let Err(error) = can_be_read(file) {
-        return Source::Not(unreadable(error));
+        return Err(unreadable(error));
     }
     sized(file)
 }

@@ -1,24 +1,17 @@
-#![tactic(auto)]
+#![tactic(auto, unfolding(numbers::specs::Field::when, numbers::specs::Field::field))]
 // The records of new sample entries and of the boxes that they hold, for a writer that has no file to take them from.
 ghost use Rattle.std.specs.Prelude.{◌≡◌};
 ghost use Rattle.fresh.specs.Fresh.{fresh_visual, fresh_avcc, fresh_vpcc, fresh_tx3g, rate_of, fresh_mp4a, fresh_esds};
 
 use avcc::Avcc;
 use decoderconfig::Config;
-use esds::{Decoder, Esds};
+use esds::Esds;
 use esfields::Stream;
-use mp4a::{Found, Mp4a};
-use numbers::{Refusal, U32};
+use mp4a::Mp4a;
+use numbers::Refusal;
 use tx3g::Tx3g;
 use visual::Visual;
 use vpcc::Vpcc;
-
-// An avcC, or why there is none.
-#[derive(Clone, Copy)]
-pub enum Made {
-    Is(Avcc),
-    Refused(Refusal),
-}
 
 // The record of a new visual entry: its samples are in the first data reference, and the rest is what the standard gives where a
 // writer has nothing else to say. No compressor is named.
@@ -27,8 +20,8 @@ pub fn visual(width: u16, height: u16) -> Visual
 {
     Visual {
         data_reference_index: 1,
-        width: width,
-        height: height,
+        width,
+        height,
         horizresolution: 0x0048_0000,
         vertresolution: 0x0048_0000,
         frame_count: 1,
@@ -41,17 +34,14 @@ pub fn visual(width: u16, height: u16) -> Visual
 }
 
 // The record of a new avcC, of one set of each kind, with lengths of four bytes in a sample. The profile, its compatibility
-// and the level stand in the sequence parameter set behind its first byte; 13 where it ends before.
-pub fn avcc(sps: &[u8]) -> Made
+// and the level stand in the sequence parameter set behind its first byte; Unwritable where it ends before.
+pub fn avcc(sps: &[u8]) -> Result<Avcc, Refusal>
     ensures { result ≡ fresh_avcc sps.now }
 {
     if sps.len() < 4 {
-        return Made::Refused(Refusal {
-            number: 13,
-            detail: 0,
-        });
+        return Err(Refusal::Unwritable);
     }
-    Made::Is(Avcc {
+    Ok(Avcc {
         profile: sps[1],
         compatibility: sps[2],
         level: sps[3],
@@ -109,34 +99,30 @@ pub fn tx3g() -> Tx3g
     }
 }
 
-// The rate of a whole number of samples each second. One that has more than 16 bits is 13: none of its bits is dropped.
-pub fn rate(frequency: u32) -> U32
+// The rate of a whole number of samples each second. One that has more than 16 bits is Unwritable: none of its bits
+// is dropped.
+pub fn rate(frequency: u32) -> Result<u32, Refusal>
     ensures { result ≡ rate_of frequency }
 {
     if 0xffff < frequency {
-        return U32::Refused(Refusal {
-            number: 13,
-            detail: 0,
-        });
+        return Err(Refusal::Unwritable);
     }
     let whole = frequency as u16;
-    U32::Is((whole as u32) * 0x1_0000)
+    Ok((whole as u32) * 0x1_0000)
 }
 
-// The record of a new sound entry: its samples are in the first data reference, and have 16 bits. 13 where the entry cannot say
-// the frequency.
-pub fn mp4a(channels: u16, frequency: u32) -> Found
+// The record of a new sound entry: its samples are in the first data reference, and have 16 bits. Unwritable where the
+// entry cannot say the frequency.
+pub fn mp4a(channels: u16, frequency: u32) -> Result<Mp4a, Refusal>
     ensures { result ≡ fresh_mp4a channels frequency }
 {
-    match rate(frequency) {
-        U32::Refused(q) => Found::Refused(q),
-        U32::Is(samplerate) => Found::Is(Mp4a {
-            data_reference_index: 1,
-            channelcount: channels,
-            samplesize: 16,
-            samplerate: samplerate,
-        }),
-    }
+    let samplerate = rate(frequency)?;
+    Ok(Mp4a {
+        data_reference_index: 1,
+        channelcount: channels,
+        samplesize: 16,
+        samplerate,
+    })
 }
 
 // The record of a new AAC stream: MPEG-4 audio (0x40) that goes downwards, with an AudioSpecificConfig (`asc::write`) as its
@@ -152,7 +138,7 @@ pub fn esds(bitrate: u32) -> Esds
             depends_on: 0,
             ocr_id: 0,
         },
-        decoder: Decoder::Is(Config {
+        decoder: Some(Config {
             object_type_indication: 0x40,
             stream: 0x15,
             buffer_size: 0,

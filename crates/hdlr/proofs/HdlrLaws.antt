@@ -1,4 +1,5 @@
 -- hdlr: what is written reads back the same, and a canonical box gives its own bytes. Assumes nothing.
+use Rattle.std.specs.Prelude.{Ok}
 use mathlib.Core.Path.{◌≡◌, refl}
 use mathlib.Core.List.{List, ◌++◌}
 use Prim.Native.Nat.{ℕ, ◌≤◌}
@@ -6,19 +7,17 @@ use native.Mathlib.Omega.{arith}
 use lib.ListN.{length, take, drop}
 use Rattle.numbers.specs.Field.{when}
 use Rattle.put.specs.Put.{wrote}
-use Rattle.put.specs.declared.Put.TheVariants.{Done}
 use Rattle.layout.specs.Rule.{rule_of}
 use Rattle.layout.specs.Canonical.{slots, firsts, Canonical}
 use Rattle.rounds.proofs.TailBoxes.{tail-back, tail-own}
 use Rattle.hdlr.specs.Hdlr.{kind, fields, from, to, hdlr_of, name_of, hdlr_in}
 use Rattle.hdlr.specs.declared.Hdlr.{Hdlr}
-use Rattle.hdlr.specs.declared.Found.TheVariants.{Is, Refused}
 
-pub hdlr-back : (m : Hdlr) (name buf : List ℕ) (n : ℕ) (out : List ℕ) → hdlr_in m name buf ≡ wrote (Done n) out → (hdlr_of (take n out) ≡ Is m) × (name_of (take n out) ≡ name)
+pub hdlr-back : (m : Hdlr) (name buf : List ℕ) (n : ℕ) (out : List ℕ) → hdlr_in m name buf ≡ wrote (Ok n) out → (hdlr_of (take n out) ≡ Ok m) × (name_of (take n out) ≡ name)
 unfolding slots firsts rule_of when
-hdlr-back = tail-back Is Refused from to kind fields (omega arith) (λ m. refl)
+hdlr-back = tail-back from to kind fields (omega arith) (λ m. refl)
 
-pub hdlr-own : (b : List ℕ) (k : ℕ) → Canonical kind fields k b → (m : Hdlr) → hdlr_of b ≡ Is m → (buf : List ℕ) → length b ≤ length buf →
-    hdlr_in m (name_of b) buf ≡ wrote (Done (length b)) (b ++ drop (length b) buf)
+pub hdlr-own : (b : List ℕ) (k : ℕ) → Canonical kind fields k b → (m : Hdlr) → hdlr_of b ≡ Ok m → (buf : List ℕ) → length b ≤ length buf →
+    hdlr_in m (name_of b) buf ≡ wrote (Ok (length b)) (b ++ drop (length b) buf)
 unfolding slots firsts rule_of when
-hdlr-own = tail-own Is Refused from to kind fields (λ a b e. cc) (λ v. refl) (omega arith)
+hdlr-own = tail-own from to kind fields (λ v. refl) (omega arith)

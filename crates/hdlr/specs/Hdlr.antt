@@ -1,14 +1,13 @@
 -- The handler of a track (ISO/IEC 14496-12, 8.4.3): four letters of any kind (A26), and a name, which is the rest of
 -- the box. Assumes nothing.
-use Rattle.std.specs.Prelude.{ℕ, List, [], ◌∷◌, get_or}
+use Rattle.std.specs.Prelude.{ℕ, List, [], ◌∷◌, get_or, Result}
 use Rattle.put.specs.Put.{Wrote}
 use Rattle.layout.specs.Read.{read_of, answer, rest_of}
 use Rattle.layout.specs.Write.{write_of, padded, slotted}
 use Rattle.layout.specs.declared.Field.{Field}
 use Rattle.layout.specs.declared.Field.TheVariants.{Number, Reserved, Version, Flags}
 use Rattle.hdlr.specs.declared.Hdlr.{Hdlr}
-use Rattle.hdlr.specs.declared.Found.{Found}
-use Rattle.hdlr.specs.declared.Found.TheVariants.{Is, Refused}
+use Rattle.numbers.specs.declared.Refusal.{Refusal}
 
 abbrev pub kind : ℕ
 kind = 0x68646c72
@@ -23,8 +22,8 @@ from v = record { version = get_or v 0 0; flags = get_or v 1 0; handler_type = g
 abbrev pub to : Hdlr → List ℕ
 to m = slotted (m.version ∷ m.flags ∷ m.handler_type ∷ [])
 
-abbrev pub hdlr_of : List ℕ → Found
-hdlr_of part = answer Is Refused from (read_of kind fields part)
+abbrev pub hdlr_of : List ℕ → Result Hdlr Refusal
+hdlr_of part = answer from (read_of kind fields part)
 
 abbrev pub name_of : List ℕ → List ℕ
 name_of part = rest_of (read_of kind fields part) part

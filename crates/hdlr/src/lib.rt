@@ -1,4 +1,4 @@
-#![tactic(auto)]
+#![tactic(auto, unfolding(numbers::specs::Field::when, numbers::specs::Field::field))]
 // The handler of a track (ISO/IEC 14496-12, 8.4.3): four letters of any kind (A26), and a name, which is the rest of
 // the box.
 ghost use Rattle.std.specs.Prelude.{◌≡◌};
@@ -7,19 +7,12 @@ ghost use Rattle.hdlr.specs.Hdlr.{hdlr_of, name_of, hdlr_in};
 
 use layout::Field;
 use numbers::Refusal;
-use put::Put;
 
 #[derive(Clone, Copy)]
 pub struct Hdlr {
     pub version: u8,
     pub flags: u32,
     pub handler_type: u32,
-}
-
-#[derive(Clone, Copy)]
-pub enum Found {
-    Is(Hdlr),
-    Refused(Refusal),
 }
 
 pub const KIND: u32 = 0x68646c72;
@@ -35,18 +28,12 @@ pub const ROW: [Field; 8] = [
     Field::Nothing,
 ];
 
-pub fn read(part: &[u8]) -> Found
+pub fn read(part: &[u8]) -> Result<Hdlr, Refusal>
     ensures { result ≡ hdlr_of part.now }
 {
-    let got = short::read::by(part, KIND, ROW);
-    if got.number != 0 {
-        return Found::Refused(Refusal {
-            number: got.number,
-            detail: got.place,
-        });
-    }
+    let got = short::read::by(part, KIND, ROW)?;
     let v = got.values;
-    Found::Is(Hdlr {
+    Ok(Hdlr {
         version: v[0] as u8,
         flags: v[1] as u32,
         handler_type: v[2] as u32,
@@ -60,7 +47,7 @@ pub fn name(part: &[u8]) -> &[u8]
     short::read::rest(part, KIND, ROW)
 }
 
-pub fn write(hdlr: Hdlr, name: &[u8], out: &mut [u8]) -> Put
+pub fn write(hdlr: Hdlr, name: &[u8], out: &mut [u8]) -> Result<usize, Refusal>
     ensures { wrote result out.new ≡ hdlr_in hdlr name.now out.old }
 {
     let v = [

@@ -1,4 +1,4 @@
-#![tactic(auto)]
+#![tactic(auto, unfolding(numbers::specs::Field::when, numbers::specs::Field::field))]
 // The boxes of a type in a parent, among those that are recorded in the tables. A parent is named by its row and 1, or
 // by 0 where it is the file; so is each box that is told.
 ghost use Rattle.std.specs.Prelude.{◌≡◌, ◌<◌, min};

@@ -1,4 +1,5 @@
 -- A type's key is that of the first of its type in the table, and is read by the fields up to it. Assumes nothing.
+use Rattle.std.specs.Prelude.{Option, Some, None}
 use mathlib.Core.Path.{◌≡◌, refl, ap, ap₂, ◌∙◌}
 use mathlib.Core.List.{List, [], ◌∷◌}
 use Prim.Native.Nat.{ℕ}
@@ -11,23 +12,14 @@ use Rattle.layout.specs.declared.Field.{Field}
 use Rattle.layout.specs.declared.Field.TheVariants.{Nothing}
 use Rattle.layout.specs.declared.read.Fields.{Fields}
 use Rattle.keys.specs.Key.{Keyed, key_in, key_at, pick_key}
-use Rattle.keys.specs.declared.Key.{Key}
-use Rattle.keys.specs.declared.Key.TheVariants.{Absent, Is}
-
--- the fields up to the key are refused, or read
-pub key-absent : (x : Key) (got g : Fields) → got ≡ g → (got.number ≡ 0 → ⊥) → Absent ≡ when (eqb g.number 0) x Absent
-key-absent x got g e h = is_ne _ _ _ _ _ h refl ∙ ap (λ f. when (eqb f.number 0) x Absent) e
-
-pub key-there : (slot : ℕ) (f g first got : Fields) → got ≡ g → first ≡ f → got.number ≡ 0 → Is (get_or got.values slot 0) first.place ≡ key_in slot f g
-key-there slot f g first got e d h = is_eq _ _ _ _ _ h refl ∙ ap₂ (key_in slot) d e
 
 module _ (kind : ℕ) (part : List ℕ) where
   -- a row that is the same, with the key and without it
-  pub same_row : (x : Key) (slot : ℕ) (row fs : List Field) → row ≡ fs → x ≡ key_in slot (read_of kind (set row slot Nothing) part) (read_of kind row part) →
+  pub same_row : (x : Option (ℕ × ℕ)) (slot : ℕ) (row fs : List Field) → row ≡ fs → x ≡ key_in slot (read_of kind (set row slot Nothing) part) (read_of kind row part) →
       x ≡ key_in slot (read_of kind (set fs slot Nothing) part) (read_of kind fs part)
   same_row x slot row fs e q = q ∙ ap (λ r. key_in slot (read_of kind (set r slot Nothing) part) (read_of kind r part)) e
 
-  module _ (k : Keyed) (ks : List Keyed) (x : Key) where
+  module _ (k : Keyed) (ks : List Keyed) (x : Option (ℕ × ℕ)) where
     pub here : kind ≡ k.kind → x ≡ key_at kind part k.fields k.slot → x ≡ pick_key kind part (k ∷ ks)
     unfolding pick_key
     here e q = is_eq _ _ _ _ _ e q
@@ -36,6 +28,6 @@ module _ (kind : ℕ) (part : List ℕ) where
     unfolding pick_key
     further e q = is_ne _ _ _ _ _ e q
 
-  pub unkeyed : Absent ≡ pick_key kind part []
+  pub unkeyed : None ≡ pick_key kind part []
   unfolding pick_key
   unkeyed = refl

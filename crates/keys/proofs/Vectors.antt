@@ -1,4 +1,5 @@
 -- Worked examples of the definitions, computed. Assumes nothing.
+use Rattle.std.specs.Prelude.{Some, None}
 use mathlib.Core.Path.{◌≡◌, refl}
 use mathlib.Core.List.{[], ◌++◌}
 use Rattle.numbers.specs.Number.{be, bytes}
@@ -8,55 +9,54 @@ use Rattle.layout.specs.Read.{one, decode}
 use Rattle.rounds.proofs.Example.{box}
 use Rattle.places.specs.Kinds.{mdhd, tkhd, trex, tfhd, stsz, trun, url}
 use Rattle.keys.specs.Key.{keys, pick_key, key_of}
-use Rattle.keys.specs.declared.Key.TheVariants.{Absent, Is}
 
 -- behind it the box may be cut; it is further on in version 1
-key-tkhd : key_of tkhd (box tkhd 0 0 (bytes 4 1 ++ bytes 4 2 ++ bytes 4 7)) ≡ Is 7 20
+key-tkhd : key_of tkhd (box tkhd 0 0 (bytes 4 1 ++ bytes 4 2 ++ bytes 4 7)) ≡ Some (7, 20)
 unfolding be bytes field when rule_of one decode pick_key keys
 key-tkhd = refl
 
-key-tkhd-1 : key_of tkhd (box tkhd 1 0 (bytes 8 1 ++ bytes 8 2 ++ bytes 4 7)) ≡ Is 7 28
+key-tkhd-1 : key_of tkhd (box tkhd 1 0 (bytes 8 1 ++ bytes 8 2 ++ bytes 4 7)) ≡ Some (7, 28)
 unfolding be bytes field when rule_of one decode pick_key keys
 key-tkhd-1 = refl
 
-key-trex : key_of trex (box trex 0 0 (bytes 4 5)) ≡ Is 5 12
+key-trex : key_of trex (box trex 0 0 (bytes 4 5)) ≡ Some (5, 12)
 unfolding be bytes field when rule_of one decode pick_key keys
 key-trex = refl
 
-key-tfhd : key_of tfhd (box tfhd 0 0x3b (bytes 4 5)) ≡ Is 5 12
+key-tfhd : key_of tfhd (box tfhd 0 0x3b (bytes 4 5)) ≡ Some (5, 12)
 unfolding be bytes field when rule_of one decode pick_key keys
 key-tfhd = refl
 
-key-stsz : key_of stsz (box stsz 0 0 (bytes 4 9 ++ bytes 4 3)) ≡ Is 3 16
+key-stsz : key_of stsz (box stsz 0 0 (bytes 4 9 ++ bytes 4 3)) ≡ Some (3, 16)
 unfolding be bytes field when rule_of one decode pick_key keys
 key-stsz = refl
 
-key-trun : key_of trun (box trun 1 0x201 (bytes 4 4)) ≡ Is 4 12
+key-trun : key_of trun (box trun 1 0x201 (bytes 4 4)) ≡ Some (4, 12)
 unfolding be bytes field when rule_of one decode pick_key keys
 key-trun = refl
 
-key-url : key_of url (box url 0 1 []) ≡ Is 1 9
+key-url : key_of url (box url 0 1 []) ≡ Some (1, 9)
 unfolding be bytes field when rule_of one decode pick_key keys
 key-url = refl
 
 -- behind a size in 64 bits
-key-large : key_of url (bytes 4 1 ++ bytes 4 url ++ bytes 8 20 ++ bytes 1 0 ++ bytes 3 1) ≡ Is 1 17
+key-large : key_of url (bytes 4 1 ++ bytes 4 url ++ bytes 8 20 ++ bytes 1 0 ++ bytes 3 1) ≡ Some (1, 17)
 unfolding be bytes field when rule_of one decode pick_key keys
 key-large = refl
 
 -- none where it is not allowed, not whole in its box, or behind a field that is refused; and none of other types
-no-key-zero : key_of trex (box trex 0 0 (bytes 4 0)) ≡ Absent
+no-key-zero : key_of trex (box trex 0 0 (bytes 4 0)) ≡ None
 unfolding be bytes field when rule_of one decode pick_key keys
 no-key-zero = refl
 
-no-key-cut : key_of stsz (box stsz 0 0 (bytes 4 9) ++ bytes 4 3) ≡ Absent
+no-key-cut : key_of stsz (box stsz 0 0 (bytes 4 9) ++ bytes 4 3) ≡ None
 unfolding be bytes field when rule_of one decode pick_key keys
 no-key-cut = refl
 
-no-key-version : key_of trun (box trun 2 0 (bytes 4 4)) ≡ Absent
+no-key-version : key_of trun (box trun 2 0 (bytes 4 4)) ≡ None
 unfolding be bytes field when rule_of one decode pick_key keys
 no-key-version = refl
 
-no_key : key_of mdhd (box mdhd 0 0 (bytes 8 0 ++ bytes 4 1 ++ bytes 8 0)) ≡ Absent
+no_key : key_of mdhd (box mdhd 0 0 (bytes 8 0 ++ bytes 4 1 ++ bytes 8 0)) ≡ None
 unfolding when pick_key keys
 no_key = refl

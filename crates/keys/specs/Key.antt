@@ -2,8 +2,9 @@
 -- tkhd, trex and tfhd (8.3.2, 8.8.3, 8.8.7), how many samples there are in stsz and trun (8.7.3.2, 8.8.8), and the
 -- flags of url, which say whether the media lie in the same file (8.7.2). It is read from the fields up to it, so
 -- what lies behind it may be cut or wrong. Assumes nothing.
-use Rattle.std.specs.Prelude.{ℕ, suc, List, [], ◌∷◌, take, get_or, eqb}
+use Rattle.std.specs.Prelude.{ℕ, suc, List, [], ◌∷◌, take, get_or, eqb, Option, Some, None, Result, Ok, Err}
 use Rattle.numbers.specs.Field.{when}
+use Rattle.numbers.specs.declared.Refusal.{Refusal}
 use Rattle.layout.specs.Read.{read_of}
 use Rattle.layout.specs.Write.{padded}
 use Rattle.layout.specs.declared.Field.{Field}
@@ -15,8 +16,6 @@ use Rattle.tfhd.specs.Tfhd as tfhd
 use Rattle.stsz.specs.Stsz as stsz
 use Rattle.trun.specs.Trun as trun
 use Rattle.url_box.specs.Url as url
-use Rattle.keys.specs.declared.Key.{Key}
-use Rattle.keys.specs.declared.Key.TheVariants.{Absent, Is}
 
 -- a type, the fields of its box, and which of them is the key, counted from 0. None before it is reserved, so that it
 -- has the slot of the same number.
@@ -39,15 +38,17 @@ keys =
     []
 
 -- by what the fields before the key and the fields up to it are read as: the key begins where those before it end
-abbrev pub key_in : ℕ → Fields → Fields → Key
-key_in slot first got = when (eqb got.number 0) (Is (get_or got.values slot 0) first.place) Absent
+abbrev pub key_in : ℕ → Result Fields Refusal → Result Fields Refusal → Option (ℕ × ℕ)
+key_in slot (Ok first) (Ok got) = Some (get_or got.values slot 0, first.place)
+key_in slot (Ok first) (Err q) = None
+key_in slot (Err q) got = None
 
-abbrev pub key_at : ℕ → List ℕ → List Field → ℕ → Key
+abbrev pub key_at : ℕ → List ℕ → List Field → ℕ → Option (ℕ × ℕ)
 key_at kind part fs slot = key_in slot (read_of kind (padded (take slot fs)) part) (read_of kind (padded (take (suc slot) fs)) part)
 
-unfoldable pub pick_key : ℕ → List ℕ → List Keyed → Key
-pick_key kind part [] = Absent
+unfoldable pub pick_key : ℕ → List ℕ → List Keyed → Option (ℕ × ℕ)
+pick_key kind part [] = None
 pick_key kind part (k ∷ ks) = when (eqb kind k.kind) (key_at kind part k.fields k.slot) (pick_key kind part ks)
 
-abbrev pub key_of : ℕ → List ℕ → Key
+abbrev pub key_of : ℕ → List ℕ → Option (ℕ × ℕ)
 key_of kind part = pick_key kind part keys

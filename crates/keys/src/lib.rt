@@ -1,4 +1,4 @@
-#![tactic(auto)]
+#![tactic(auto, unfolding(numbers::specs::Field::when, numbers::specs::Field::field))]
 // The number of a box that is held against other boxes, and where it stands. It is read from the fields up to it, so
 // what lies behind it may be cut or wrong.
 ghost use Rattle.std.specs.Prelude.{◌≡◌, [], ◌∷◌, ◌<◌, set};
@@ -8,13 +8,6 @@ ghost use Rattle.keys.specs.Key.{key_in, key_of};
 
 use layout::Field;
 use places::kinds;
-
-// The value, and the position of its field from the part's start on.
-#[derive(Clone, Copy)]
-pub enum Key {
-    Absent,
-    Is(u64, usize),
-}
 
 // A time, which is wider in version 1, and a track's number, which is not 0.
 const TIME: Field = Field::Wide(4, 8);
@@ -37,23 +30,20 @@ fn row(a: Field, b: Field, c: Field, d: Field, e: Field) -> [Field; 24]
 }
 
 // The last field of a row, in this slot: it begins where the fields before it end.
-fn last(kind: u32, part: &[u8], row: [Field; 24], slot: usize) -> Key
+fn last(kind: u32, part: &[u8], row: [Field; 24], slot: usize) -> Option<(u64, usize)>
     requires { slot < 24 }
     ensures { result ≡ key_in slot (read_of kind (set row slot Field.Nothing) part.now) (read_of kind row part.now) }
 {
-    let got = layout::read::by(part, kind, row);
-    if got.number != 0 {
-        return Key::Absent;
-    }
     let mut first = row;
     first[slot] = Field::Nothing;
-    let before = layout::read::by(part, kind, first);
+    let before = layout::read::by(part, kind, first).ok()?;
+    let got = layout::read::by(part, kind, row).ok()?;
     let v = got.values;
-    Key::Is(v[slot], before.place)
+    Some((v[slot], before.place))
 }
 
-// The key of a box of this type.
-pub fn find(kind: u32, part: &[u8]) -> Key
+// The key of a box of this type: its value, and the position of its field from the part's start on.
+pub fn find(kind: u32, part: &[u8]) -> Option<(u64, usize)>
     ensures { result ≡ key_of kind part.now }
 {
     if kind == kinds::TKHD {
@@ -92,5 +82,5 @@ pub fn find(kind: u32, part: &[u8]) -> Key
         let fields = row(Field::Version(0, 0), Field::Flags, NONE, NONE, NONE);
         return last(kind, part, fields, 1);
     }
-    Key::Absent
+    None
 }

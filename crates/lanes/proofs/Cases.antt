@@ -1,4 +1,5 @@
 -- One law for each return of the cursors, over plain variables. Assumes nothing.
+use Rattle.std.specs.Prelude.{Option, Some, None}
 use Prim.Native.Nat.{ℕ, zero, suc, ◌+◌, ◌-◌, ◌*◌, ◌≤◌, ◌<◌}
 use mathlib.Core.Path.{◌≡◌, refl, sym, ap, ap₂, ◌∙◌}
 use mathlib.Core.List.{List, [], ◌∷◌, ◌++◌}
@@ -12,8 +13,6 @@ use Rattle.tables.specs.Tables.{values_of, pairs, offset_at, chunks, those, numb
 use Rattle.tables.specs.Samples.{starts, place, first_or, rest, flag_of, past_of}
 use Rattle.tables.specs.Rows.{row_at, rows_of}
 use Rattle.tables.specs.declared.Table.{Table}
-use Rattle.tables.specs.declared.Optional.{Optional}
-use Rattle.tables.specs.declared.Optional.TheVariants.{Absent, At}
 use Rattle.tables.specs.declared.Chunks.{Chunks}
 use Rattle.tables.specs.declared.Rows.{Rows}
 use Rattle.tables.specs.declared.Row.{Row}
@@ -138,17 +137,17 @@ shift-any (suc n) c e h = sym (ap (λ (j : ℕ). shift_by j c) e)
 pub shift-some : (c r : Runs) → (c.left ≡ 0 → ⊥) → r ≡ after_of c → record { value = c.value; rest = r } ≡ shift_of c
 shift-some c r h e = ap (λ (x : Runs). record { value = c.value; rest = x }) e ∙ shift-any c.left c refl h
 
-module _ (f : List ℕ) (o : Optional) (t : Table) (eo : o ≡ At t) (c s : Runs) (r : Shift) (er : r ≡ shift_of s) where
+module _ (f : List ℕ) (o : Option Table) (t : Table) (eo : o ≡ Some t) (c s : Runs) (r : Shift) (er : r ≡ shift_of s) where
   abbrev shifts : List ℕ
   shifts = shifts_left f o c
 
   is-pairs : shifts ≡ runs_left (pairs f t) c
-  is-pairs = ap (λ (x : Optional). shifts_left f x c) eo
+  is-pairs = ap (λ (x : Option Table). shifts_left f x c) eo
 
   pub shift_from : Ready (pairs f t) s → runs_left (pairs f t) s ≡ runs_left (pairs f t) c → (r.value ≡ first_or 0 shifts) × (shifts_left f o r.rest ≡ rest shifts)
   shift_from h q =
       let w = shift-told (pairs f t) s shifts h (q ∙ sym is-pairs) in
-      (ap (λ (x : Shift). x.value) er ∙ w.0, ap (λ (x : Optional). shifts_left f x r.rest) eo ∙ ap (λ (x : Shift). runs_left (pairs f t) x.rest) er ∙ w.1)
+      (ap (λ (x : Shift). x.value) er ∙ w.0, ap (λ (x : Option Table). shifts_left f x r.rest) eo ∙ ap (λ (x : Shift). runs_left (pairs f t) x.rest) er ∙ w.1)
 
   abbrev filled : List Row
   filled = rows_of f (rows_at t.at t.count false 0)
@@ -165,18 +164,18 @@ marked-some : (n : ℕ) (ns : List ℕ) → (n ≡ 0 → ⊥) → marked n ns �
 marked-some zero ns h = absurd (h refl)
 marked-some (suc n) ns h = refl
 
-module _ (f : List ℕ) (o : Optional) (m : Marks) where
+module _ (f : List ℕ) (o : Option Table) (m : Marks) where
   pub mark-there : (m.number ≡ 0 → ⊥) → MarkReady f o m
   mark-there h = by o
     where
-      by : (x : Optional) → MarkReady f x m
-      by Absent = tt
-      by (At t) = λ e. absurd (h e)
+      by : (x : Option Table) → MarkReady f x m
+      by None = tt
+      by (Some t) = λ e. absurd (h e)
 
-  pub mark-all : o ≡ Absent → MarkReady f o m
+  pub mark-all : o ≡ None → MarkReady f o m
   mark-all e = rw e tt
 
-  module _ (t : Table) (eo : o ≡ At t) (e : m.number ≡ 0) where
+  module _ (t : Table) (eo : o ≡ Some t) (e : m.number ≡ 0) where
     unread : marks_left (numbers f t) m ≡ drop m.next (numbers f t)
     unfolding marks_left
     unread = ap (λ (k : ℕ). marked k (drop m.next (numbers f t))) e
@@ -208,22 +207,22 @@ module _ (f : List ℕ) (m : Marks) (n : ℕ) (k : 0 < n) where
   stays [] h = refl
   stays (x ∷ l) h = ap (λ (a : Bool). those (when a l (x ∷ l))) h
 
-  abbrev Tells : Optional → Type 0
+  abbrev Tells : Option Table → Type 0
   Tells o = (sync_of o m n ≡ flag_of (syncs_left f o m) n) × (syncs_left f o (unmarked m n) ≡ past_of (syncs_left f o m) n)
 
-  by_number : (t : Table) (j : ℕ) (b : Bool) → m.number ≡ j → eqb j n ≡ b → MarkReady f (At t) m → Tells (At t)
+  by_number : (t : Table) (j : ℕ) (b : Bool) → m.number ≡ j → eqb j n ≡ b → MarkReady f (Some t) m → Tells (Some t)
   unfolding syncs_left marks_left when
   by_number t zero b e q h =
       let d : eqb m.number n ≡ false = ne_eqb m.number n (λ v. omega (arith, v, e, k)) in
-      let g : flag_of (syncs_left f (At t) m) n ≡ false = h e n k in
-      (d ∙ sym g, ap (λ (a : Bool). syncs_left f (At t) (record { next = m.next; number = when a 0 m.number })) d ∙ sym (stays (marks_left (numbers f t) m) g))
+      let g : flag_of (syncs_left f (Some t) m) n ≡ false = h e n k in
+      (d ∙ sym g, ap (λ (a : Bool). syncs_left f (Some t) (record { next = m.next; number = when a 0 m.number })) d ∙ sym (stays (marks_left (numbers f t) m) g))
   by_number t (suc j) b e q h = rw (e, q) (refl, by-test b)
     where
       by-test : (a : Bool) → those (marked (when a 0 (suc j)) (drop m.next (numbers f t))) ≡ those (when a (drop m.next (numbers f t)) (suc j ∷ drop m.next (numbers f t)))
       by-test true = refl
       by-test false = refl
 
-  pub mark-tells : (o : Optional) → MarkReady f o m → Tells o
+  pub mark-tells : (o : Option Table) → MarkReady f o m → Tells o
   unfolding syncs_left
-  mark-tells Absent h = (refl, refl)
-  mark-tells (At t) h = by_number t m.number (eqb m.number n) refl refl h
+  mark-tells None h = (refl, refl)
+  mark-tells (Some t) h = by_number t m.number (eqb m.number n) refl refl h

@@ -1,4 +1,5 @@
 -- What a lane has left: all samples of the track where it begins, and never more than the tables say. Assumes nothing.
+use Rattle.std.specs.Prelude.{Option, Some, None}
 use Prim.Native.Nat.{ℕ, ◌-◌, ◌≤◌}
 use mathlib.Core.Path.{◌≡◌, refl, ap₂}
 use mathlib.Core.List.{List}
@@ -7,13 +8,12 @@ use lib.ListN.{length, length-drop}
 use Rattle.tables.specs.Tables.{values_of, pairs, groups, chunks, sizes, size_at, shifts, Syncs, syncs}
 use Rattle.tables.specs.Samples.{place, zipped, samples_of}
 use Rattle.lanes.specs.Lane.{runs_at, runs_left, places_at, places_left, shifts_left, marks_left, syncs_left, sizes_left, left, begun, fresh}
-use Rattle.tables.specs.declared.Optional.{Optional}
-use Rattle.tables.specs.declared.Optional.TheVariants.{Absent, At}
 use Rattle.tables.specs.declared.Row.{Row}
 use Rattle.tables.specs.declared.Track.{Track}
 use Rattle.lanes.specs.declared.Lane.{Lane}
 use Rattle.tables.proofs.Lists.{length-list}
 use Rattle.tables.proofs.Lengths.{length-zipped}
+use Rattle.tables.specs.declared.Table.{Table}
 
 -- A LANE THAT BEGINS
 
@@ -21,14 +21,14 @@ runs-fresh : (rs : List Row) → runs_left rs begun ≡ values_of rs
 unfolding runs_at
 runs-fresh rs = refl
 
-shifts-fresh : (f : List ℕ) (o : Optional) → shifts_left f o begun ≡ shifts f o
-shifts-fresh f Absent = refl
-shifts-fresh f (At t) = runs-fresh (pairs f t)
+shifts-fresh : (f : List ℕ) (o : Option Table) → shifts_left f o begun ≡ shifts f o
+shifts-fresh f None = refl
+shifts-fresh f (Some t) = runs-fresh (pairs f t)
 
-syncs-fresh : (f : List ℕ) (o : Optional) → syncs_left f o fresh.syncs ≡ syncs f o
+syncs-fresh : (f : List ℕ) (o : Option Table) → syncs_left f o fresh.syncs ≡ syncs f o
 unfolding syncs_left marks_left
-syncs-fresh f Absent = refl
-syncs-fresh f (At t) = refl
+syncs-fresh f None = refl
+syncs-fresh f (Some t) = refl
 
 pub left-fresh : (f : List ℕ) (t : Track) → left f t fresh ≡ samples_of f t
 unfolding left runs_at places_at

@@ -1,10 +1,8 @@
 -- The samples that a lane has left: the same tables, each from where the lane's cursor stands. `left-fresh`
 -- (proofs/Left.antt) says that a lane that begins has the samples of the track left. Assumes nothing.
-use Rattle.std.specs.Prelude.{ℕ, zero, suc, ◌+◌, List, [], ◌∷◌, ◌++◌, take, drop, replicate}
+use Rattle.std.specs.Prelude.{ℕ, zero, suc, ◌+◌, List, [], ◌∷◌, ◌++◌, take, drop, replicate, Option, Some, None}
 use Rattle.tables.specs.Tables.{values_of, pairs, groups, chunks, sizes, Syncs, every, those, numbers}
 use Rattle.tables.specs.Samples.{starts, place, zipped}
-use Rattle.tables.specs.declared.Optional.{Optional}
-use Rattle.tables.specs.declared.Optional.TheVariants.{Absent, At}
 use Rattle.tables.specs.declared.Row.{Row}
 use Rattle.lanes.specs.declared.Runs.{Runs}
 use Rattle.lanes.specs.declared.Place.{Place}
@@ -15,6 +13,7 @@ use Rattle.samples.specs.declared.Sample.{Sample}
 use Rattle.lanes.specs.declared.Lane.{Lane}
 use Rattle.lanes.specs.declared.Taken.{Taken}
 use Rattle.lanes.specs.declared.Taken.TheVariants as taken
+use Rattle.tables.specs.declared.Table.{Table}
 
 -- the values left of rows: `left` of one value, then those of the rows from i on
 unfoldable pub runs_at : List Row → ℕ → ℕ → ℕ → List ℕ
@@ -31,9 +30,9 @@ places_at rs cs left at k c ss = starts at (take left ss) ++ place (runs_left rs
 abbrev pub places_left : List Row → List ℕ → Place → List ℕ → List ℕ
 places_left rs cs p ss = places_at rs cs p.left p.at p.chunk p.groups ss
 
-abbrev pub shifts_left : List ℕ → Optional → Runs → List ℕ
-shifts_left f Absent c = []
-shifts_left f (At t) c = runs_left (pairs f t) c
+abbrev pub shifts_left : List ℕ → Option Table → Runs → List ℕ
+shifts_left f None c = []
+shifts_left f (Some t) c = runs_left (pairs f t) c
 
 -- the sync numbers left: the one that was read and has not come, then those from entry i on
 abbrev pub marked : ℕ → List ℕ → List ℕ
@@ -43,9 +42,9 @@ marked (suc n) ns = suc n ∷ ns
 unfoldable pub marks_left : List ℕ → Marks → List ℕ
 marks_left ns m = marked m.number (drop m.next ns)
 
-unfoldable pub syncs_left : List ℕ → Optional → Marks → Syncs
-syncs_left f Absent m = every
-syncs_left f (At t) m = those (marks_left (numbers f t) m)
+unfoldable pub syncs_left : List ℕ → Option Table → Marks → Syncs
+syncs_left f None m = every
+syncs_left f (Some t) m = those (marks_left (numbers f t) m)
 
 abbrev pub sizes_left : List ℕ → Track → Lane → List ℕ
 sizes_left f t l = drop l.done (sizes f t.stsz)

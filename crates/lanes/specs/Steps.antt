@@ -1,12 +1,10 @@
 -- What the private functions of the lane promise: a cursor that is ready, and what comes after it. No public promise
 -- rests on it. Assumes nothing.
-use Rattle.std.specs.Prelude.{ℕ, zero, suc, ◌+◌, ◌-◌, ◌<◌, ◌≡◌, List, [], ◌∷◌, Bool, true, false, drop, eqb}
+use Rattle.std.specs.Prelude.{ℕ, zero, suc, ◌+◌, ◌-◌, ◌<◌, ◌≡◌, List, [], ◌∷◌, Bool, true, false, drop, eqb, Option, Some, None}
 use Rattle.numbers.specs.Field.{when}
 use Rattle.signed.specs.Signed.{signed}
 use Rattle.tables.specs.Tables.{pairs, groups, chunks, sizes}
 use Rattle.tables.specs.Samples.{first_or, rest, flag_of, past_of, zipped}
-use Rattle.tables.specs.declared.Optional.{Optional}
-use Rattle.tables.specs.declared.Optional.TheVariants.{Absent, At}
 use Rattle.tables.specs.declared.Row.{Row}
 use Rattle.tables.specs.declared.Rows.{Rows}
 use Rattle.tables.specs.declared.Track.{Track}
@@ -17,6 +15,7 @@ use Rattle.lanes.specs.declared.Place.{Place}
 use Rattle.lanes.specs.declared.Shift.{Shift}
 use Rattle.lanes.specs.declared.Marks.{Marks}
 use Rattle.lanes.specs.declared.Lane.{Lane}
+use Rattle.tables.specs.declared.Table.{Table}
 
 abbrev pub rows_at : ℕ → ℕ → Bool → ℕ → Rows
 rows_at at n g k = record { at = at; count = n; grouped = g; chunks = k }
@@ -45,14 +44,14 @@ abbrev pub shift_of : Runs → Shift
 shift_of c = shift_by c.left c
 
 -- a cursor over stss that is ready has the next number, or no sample has it
-abbrev pub MarkReady : List ℕ → Optional → Marks → Type 0
-MarkReady f Absent m = Unit {0}
-MarkReady f (At t) m = m.number ≡ 0 → (n : ℕ) → 0 < n → flag_of (syncs_left f (At t) m) n ≡ false
+abbrev pub MarkReady : List ℕ → Option Table → Marks → Type 0
+MarkReady f None m = Unit {0}
+MarkReady f (Some t) m = m.number ≡ 0 → (n : ℕ) → 0 < n → flag_of (syncs_left f (Some t) m) n ≡ false
 
 -- whether sample n is sync, by a cursor that is ready; and the cursor after it
-abbrev pub sync_of : Optional → Marks → ℕ → Bool
-sync_of Absent m n = true
-sync_of (At t) m n = eqb m.number n
+abbrev pub sync_of : Option Table → Marks → ℕ → Bool
+sync_of None m n = true
+sync_of (Some t) m n = eqb m.number n
 
 abbrev pub unmarked : Marks → ℕ → Marks
 unmarked m n = record { next = m.next; number = when (eqb m.number n) 0 m.number }

@@ -1,4 +1,4 @@
-#![tactic(auto)]
+#![tactic(auto, unfolding(numbers::specs::Field::when, numbers::specs::Field::field))]
 // The samples of one track, from its tables as they lie in the file. A lane is a cursor by value: it gives one sample
 // after the other, visits each entry of each table once, and never goes back to the start of a table.
 ghost use Rattle.std.specs.Prelude.{◌≡◌, ◌<◌, drop, eqb};
@@ -11,7 +11,7 @@ ghost use Rattle.lanes.specs.Lane.{runs_left, shifts_left, syncs_left, left, beg
 ghost use Rattle.lanes.specs.Steps.{rows_at, Ready, after_of, SamePlaces, PlaceReady, shift_of, MarkReady, sync_of, samples_from};
 
 use samples::{LAST, Sample, TIME_BOUND};
-use tables::{Chunks, Optional, Rows, Track};
+use tables::{Chunks, Rows, Track};
 
 pub mod site;
 
@@ -40,10 +40,10 @@ fn run_fill(file: &[u8], at: usize, count: u32, grouped: bool, chunks: u32, from
     ensures ready { Ready (rows_of file.now (rows_at at count grouped chunks)) result }
 {
     let rows = Rows {
-        at: at,
-        count: count,
-        grouped: grouped,
-        chunks: chunks,
+        at,
+        count,
+        grouped,
+        chunks,
     };
     let mut i = from;
     while i < count {
@@ -106,8 +106,8 @@ fn place_ready(file: &[u8], rows: Rows, t: Chunks, p: Place) -> Place
         if t.count <= chunk {
             return Place {
                 left: 0,
-                at: at,
-                chunk: chunk,
+                at,
+                chunk,
                 groups: runs,
             };
         }
@@ -115,8 +115,8 @@ fn place_ready(file: &[u8], rows: Rows, t: Chunks, p: Place) -> Place
         if r.left == 0 {
             return Place {
                 left: 0,
-                at: at,
-                chunk: chunk,
+                at,
+                chunk,
                 groups: r,
             };
         }
@@ -126,9 +126,9 @@ fn place_ready(file: &[u8], rows: Rows, t: Chunks, p: Place) -> Place
         runs = run_after(r);
     }
     Place {
-        left: left,
-        at: at,
-        chunk: chunk,
+        left,
+        at,
+        chunk,
         groups: runs,
     }
 }
@@ -154,11 +154,11 @@ fn shift_of(c: Runs) -> Shift
 }
 
 // Where ctts is short, or absent, the offset is 0.
-fn shift_next(file: &[u8], o: Optional, c: Runs) -> Shift
+fn shift_next(file: &[u8], o: Option<tables::Table>, c: Runs) -> Shift
     ensures value { result.value ≡ first_or 0 (shifts_left file.now o c) }
     ensures rest { shifts_left file.now o result.rest ≡ rest (shifts_left file.now o c) }
 {
-    let Optional::At(t) = o else {
+    let Some(t) = o else {
         return Shift { value: 0, rest: c };
     };
     if c.left == 0 {
@@ -176,14 +176,14 @@ pub struct Marks {
 }
 
 // The cursor with the next sync sample's number, where there is one. A number 0 is no sample's, and is not passed.
-fn mark_ready(file: &[u8], o: Optional, m: Marks) -> Marks
+fn mark_ready(file: &[u8], o: Option<tables::Table>, m: Marks) -> Marks
     ensures same { syncs_left file.now o result ≡ syncs_left file.now o m }
     ensures ready { MarkReady file.now o result }
 {
     if m.number != 0 {
         return m;
     }
-    let Optional::At(t) = o else {
+    let Some(t) = o else {
         return m;
     };
     if t.count <= m.next {
@@ -200,12 +200,12 @@ fn mark_ready(file: &[u8], o: Optional, m: Marks) -> Marks
 }
 
 // Whether the sample of that number is sync, where m is ready.
-fn sync_at(o: Optional, m: Marks, number: u32) -> bool
+fn sync_at(o: Option<tables::Table>, m: Marks, number: u32) -> bool
     ensures { result ≡ sync_of o m number }
 {
     match o {
-        Optional::Absent => true,
-        Optional::At(_) => m.number == number,
+        None => true,
+        Some(_) => m.number == number,
     }
 }
 
@@ -259,14 +259,14 @@ pub fn start() -> Lane
     Lane {
         done: 0,
         time: 0,
-        times: times,
-        shifts: shifts,
+        times,
+        shifts,
         syncs: Marks { next: 0, number: 0 },
         place: Place {
             left: 0,
             at: 0,
             chunk: 0,
-            groups: groups,
+            groups,
         },
     }
 }
@@ -308,18 +308,18 @@ fn give(
     let runs = p.groups;
     Taken::One {
         sample: Sample {
-            number: number,
+            number,
             offset: p.at,
-            size: size,
-            time: time,
-            duration: duration,
-            composition: composition,
-            sync: sync,
+            size,
+            time,
+            duration,
+            composition,
+            sync,
         },
         lane: Lane {
             done: number,
             time: later,
-            times: times,
+            times,
             shifts: further,
             syncs: Marks {
                 next: ready.next,

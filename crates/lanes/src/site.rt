@@ -42,7 +42,7 @@ pub fn start() -> Site
             left: 0,
             at: 0,
             chunk: 0,
-            groups: groups,
+            groups,
         },
     }
 }
@@ -84,9 +84,9 @@ pub fn next(file: &[u8], track: Track, site: Site) -> Stood
     }
     let runs = p.groups;
     Stood::One {
-        number: number,
+        number,
         offset: p.at,
-        size: size,
+        size,
         site: Site {
             done: number,
             place: Place {

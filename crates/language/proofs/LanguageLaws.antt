@@ -1,4 +1,5 @@
 -- The language's letters: each law of a letter once for any answer, and both round trips. Assumes nothing.
+use Rattle.std.specs.Prelude.{Result, Ok, Err}
 use mathlib.Core.Path.{◌≡◌, refl, sym, ap, ◌∙◌}
 use mathlib.Core.Logic.{◌⊎◌, inl, inr, ⊎_elim}
 use mathlib.Core.Bool.{Bool, true, false}
@@ -6,11 +7,9 @@ use Prim.Native.Nat.{ℕ, ◌+◌, ◌-◌, ◌*◌, ◌/◌, ◌%◌, ◌≤◌
 use native.Mathlib.Omega.{arith}
 use lib.Dec.{ltb}
 use borrow.Author.Tests.{ltb-true, ltb-false}
-use Rattle.numbers.specs.Field.{refusal, when}
+use Rattle.numbers.specs.Field.{when}
+use Rattle.numbers.specs.declared.Refusal.TheVariants as refusal
 use Rattle.numbers.specs.declared.Refusal.{Refusal}
-use Rattle.numbers.specs.declared.U8.{U8}
-use Rattle.numbers.specs.declared.U8.TheVariants as u8
-use Rattle.numbers.specs.declared.U16.TheVariants as u16
 use Rattle.numbers.proofs.Chain.{way, is_lt, not-lt}
 use Rattle.language.specs.Language.{letters_of, five, code_of}
 use Rattle.language.specs.declared.Letters.{Letters}
@@ -20,46 +19,46 @@ module _ {A : Type 0} (away : Refusal → A) (x : ℕ) (go : ℕ → A) (z : A) 
   unfolding five
   is-five l h q = not-lt _ _ z x 0x60 l (not-lt _ _ z 0x7f x h q)
 
-  pub no-five : (x < 0x60) ⊎ (0x7f < x) → z ≡ away (refusal 13 0) → z ≡ five away x go
+  pub no-five : (x < 0x60) ⊎ (0x7f < x) → z ≡ away refusal.Unwritable → z ≡ five away x go
   unfolding five when
   no-five (inl l) q = is_lt _ _ z x 0x60 l q
   no-five (inr h) q = by (ltb x 0x60)
     where
-      by : (t : Bool) → z ≡ when t (away (refusal 13 0)) (when (ltb 0x7f x) (away (refusal 13 0)) (go (x - 0x60)))
+      by : (t : Bool) → z ≡ when t (away refusal.Unwritable) (when (ltb 0x7f x) (away refusal.Unwritable) (go (x - 0x60)))
       by true = q
       by false = is_lt _ _ z 0x7f x h q
 
-  pub five-way : five away x go ≡ z → ((0x60 ≤ x) × (x ≤ 0x7f) × (go (x - 0x60) ≡ z)) ⊎ (((x < 0x60) ⊎ (0x7f < x)) × (away (refusal 13 0) ≡ z))
+  pub five-way : five away x go ≡ z → ((0x60 ≤ x) × (x ≤ 0x7f) × (go (x - 0x60) ≡ z)) ⊎ (((x < 0x60) ⊎ (0x7f < x)) × (away refusal.Unwritable ≡ z))
   unfolding five
   five-way e =
       ⊎_elim (λ y. inr (inl (ltb-true x 0x60 y.0), y.1))
       (λ y.
       ⊎_elim (λ o. inr (inr (ltb-true 0x7f x o.0), o.1)) (λ o. inl (ltb-false x 0x60 y.0, ltb-false 0x7f x o.0, o.1))
-      (way (ltb 0x7f x) (away (refusal 13 0)) (go (x - 0x60)) z y.1))
-      (way (ltb x 0x60) (away (refusal 13 0)) (when (ltb 0x7f x) (away (refusal 13 0)) (go (x - 0x60))) z e)
+      (way (ltb 0x7f x) (away refusal.Unwritable) (go (x - 0x60)) z y.1))
+      (way (ltb x 0x60) (away refusal.Unwritable) (when (ltb 0x7f x) (away refusal.Unwritable) (go (x - 0x60))) z e)
 
-module _ (x : ℕ) (r : U8) (e : r ≡ five u8.Refused x u8.Is) where
-  pub bits_is : (n : ℕ) → r ≡ u8.Is n → (0x60 ≤ x) × (x ≤ 0x7f) × (n ≡ x - 0x60)
+module _ (x : ℕ) (r : Result ℕ Refusal) (e : r ≡ five Err x Ok) where
+  pub bits_is : (n : ℕ) → r ≡ Ok n → (0x60 ≤ x) × (x ≤ 0x7f) × (n ≡ x - 0x60)
   bits_is n f =
       ⊎_elim (λ y. (y.0, y.1, let q : n ≡ x - 0x60 = cc y.2 in q)) (λ y. let q : ◌≡◌ {A = ℕ} 0 1 = cc y.1 in absurd (omega arith))
-      (five-way u8.Refused x u8.Is r (sym e))
+      (five-way Err x Ok r (sym e))
 
-  pub has-bits : {A : Type 0} (away : Refusal → A) (go : ℕ → A) (z : A) (n : ℕ) → r ≡ u8.Is n → z ≡ go n → z ≡ five away x go
+  pub has-bits : {A : Type 0} (away : Refusal → A) (go : ℕ → A) (z : A) (n : ℕ) → r ≡ Ok n → z ≡ go n → z ≡ five away x go
   has-bits away go z n f q = let b = bits_is n f in is-five away x go z b.0 b.1 (q ∙ ap go b.2)
 
-  pub lacks-bits : {A : Type 0} (away : Refusal → A) (go : ℕ → A) (z : A) (q : Refusal) → r ≡ u8.Refused q → z ≡ away (refusal 13 0) → z ≡ five away x go
+  pub lacks-bits : {A : Type 0} (away : Refusal → A) (go : ℕ → A) (z : A) (q : Refusal) → r ≡ Err q → z ≡ away refusal.Unwritable → z ≡ five away x go
   lacks-bits away go z q f o =
       ⊎_elim (λ y. let a : ◌≡◌ {A = ℕ} 0 1 = cc y.2 in absurd (omega arith)) (λ y. no-five away x go z y.0 o)
-      (five-way u8.Refused x u8.Is r (sym e))
+      (five-way Err x Ok r (sym e))
 
 -- what a code of 15 bits is read as is written with that code
-pub code-own : (n : ℕ) → n < 32768 → code_of (letters_of n) ≡ u16.Is n
+pub code-own : (n : ℕ) → n < 32768 → code_of (letters_of n) ≡ Ok n
 code-own n h =
     sym
-    (is-five u16.Refused (n / 1024 % 32 + 96) _ _ (omega arith) (omega arith)
-    (is-five u16.Refused (n / 32 % 32 + 96) _ _ (omega arith) (omega arith)
-    (is-five u16.Refused (n % 32 + 96) _ _ (omega arith) (omega arith)
-    (ap u16.Is (let q : n ≡ (n / 1024 % 32 + 96 - 96) * 1024 + (n / 32 % 32 + 96 - 96) * 32 + (n % 32 + 96 - 96) = omega (arith, h) in q)))))
+    (is-five Err (n / 1024 % 32 + 96) _ _ (omega arith) (omega arith)
+    (is-five Err (n / 32 % 32 + 96) _ _ (omega arith) (omega arith)
+    (is-five Err (n % 32 + 96) _ _ (omega arith) (omega arith)
+    (ap Ok (let q : n ≡ (n / 1024 % 32 + 96 - 96) * 1024 + (n / 32 % 32 + 96 - 96) * 32 + (n % 32 + 96 - 96) = omega (arith, h) in q)))))
 
 -- letters that are written are read back
 same : (a b c a' b' c' : ℕ) → a ≡ a' → b ≡ b' → c ≡ c' → ◌≡◌ {A = Letters} (record { first = a; second = b; third = c }) (record { first = a'; second = b'; third = c' })
@@ -70,21 +69,21 @@ digits : (a b c n : ℕ) → 0x60 ≤ a → a ≤ 0x7f → 0x60 ≤ b → b ≤ 
 digits a b c n la ha lb hb lc hc e =
     same _ _ _ a b c (omega (arith, la, ha, lb, hb, lc, hc, e)) (omega (arith, la, ha, lb, hb, lc, hc, e)) (omega (arith, la, ha, lb, hb, lc, hc, e))
 
-pub code-back : (l : Letters) (n : ℕ) → code_of l ≡ u16.Is n → letters_of n ≡ l
+pub code-back : (l : Letters) (n : ℕ) → code_of l ≡ Ok n → letters_of n ≡ l
 code-back l n e =
     ⊎_elim
     (λ a.
     ⊎_elim
     (λ b.
     ⊎_elim (λ c. digits l.first l.second l.third n a.0 a.1 b.0 b.1 c.0 c.1 (same_number _ n c.2)) (λ c. none c.1)
-    (five-way u16.Refused l.third _ (u16.Is n) b.2))
+    (five-way Err l.third _ (Ok n) b.2))
     (λ b. none b.1)
-    (five-way u16.Refused l.second _ (u16.Is n) a.2))
+    (five-way Err l.second _ (Ok n) a.2))
     (λ a. none a.1)
-    (five-way u16.Refused l.first _ (u16.Is n) e)
+    (five-way Err l.first _ (Ok n) e)
   where
-    none : u16.Refused (refusal 13 0) ≡ u16.Is n → letters_of n ≡ l
+    none : Err refusal.Unwritable ≡ Ok n → letters_of n ≡ l
     none q = let z : ◌≡◌ {A = ℕ} 0 1 = cc in absurd (omega arith)
 
-    same_number : (a b : ℕ) → u16.Is a ≡ u16.Is b → a ≡ b
+    same_number : (a b : ℕ) → ◌≡◌ {A = Result _ Refusal} (Ok a) (Ok b) → a ≡ b
     same_number a b q = cc

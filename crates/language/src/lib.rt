@@ -1,9 +1,9 @@
-#![tactic(auto)]
+#![tactic(auto, unfolding(numbers::specs::Field::when, numbers::specs::Field::field))]
 // The language of a track: three letters in 15 bits (ISO/IEC 14496-12, 8.4.2.3).
-ghost use Rattle.std.specs.Prelude.{◌≡◌};
+ghost use Rattle.std.specs.Prelude.{◌≡◌, Ok, Err};
 ghost use Rattle.language.specs.Language.{letters_of, five, code_of};
 
-use numbers::{Refusal, U8, U16};
+use numbers::Refusal;
 
 #[derive(Clone, Copy)]
 pub struct Letters {
@@ -24,45 +24,30 @@ pub fn of_code(code: u16) -> Letters
 }
 
 // The 5 bits of a letter.
-fn bits(x: u8) -> U8
-    ensures { result ≡ five U8.Refused x U8.Is }
+fn bits(x: u8) -> Result<u8, Refusal>
+    ensures { result ≡ five Err x Ok }
 {
     if x < 0x60 {
-        return U8::Refused(Refusal {
-            number: 13,
-            detail: 0,
-        });
+        return Err(Refusal::Unwritable);
     }
     if 0x7f < x {
-        return U8::Refused(Refusal {
-            number: 13,
-            detail: 0,
-        });
+        return Err(Refusal::Unwritable);
     }
-    U8::Is(x - 0x60)
+    Ok(x - 0x60)
 }
 
 // 13 for a letter that 5 bits do not hold.
-pub fn code_of(letters: Letters) -> U16
+pub fn code_of(letters: Letters) -> Result<u16, Refusal>
     ensures { result ≡ code_of letters }
 {
-    let U8::Is(first) = bits(letters.first) else {
-        return U16::Refused(Refusal {
-            number: 13,
-            detail: 0,
-        });
+    let Ok(first) = bits(letters.first) else {
+        return Err(Refusal::Unwritable);
     };
-    let U8::Is(second) = bits(letters.second) else {
-        return U16::Refused(Refusal {
-            number: 13,
-            detail: 0,
-        });
+    let Ok(second) = bits(letters.second) else {
+        return Err(Refusal::Unwritable);
     };
-    let U8::Is(third) = bits(letters.third) else {
-        return U16::Refused(Refusal {
-            number: 13,
-            detail: 0,
-        });
+    let Ok(third) = bits(letters.third) else {
+        return Err(Refusal::Unwritable);
     };
-    U16::Is(first as u16 * 1024 + second as u16 * 32 + third as u16)
+    Ok(first as u16 * 1024 + second as u16 * 32 + third as u16)
 }

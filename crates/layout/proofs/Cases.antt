@@ -1,4 +1,5 @@
 -- One field more, read or written. Assumes nothing.
+use Rattle.std.specs.Prelude.{Result, Ok, Err}
 use mathlib.Core.Path.{◌≡◌, refl, sym, ap, ap₂, ◌∙◌}
 use mathlib.Core.List.{List, [], ◌∷◌, ◌++◌}
 use mathlib.Core.Bool.{Bool, true, false}
@@ -11,9 +12,9 @@ use lib.Seq.{drop-cons, drop-length, sets, length-take-le}
 use lib.Dec.{ltb, leb, eqb}
 use borrow.Author.Tests.{lt-ltb, le-ltb}
 use Rattle.numbers.specs.Number.{be, bytes}
-use Rattle.numbers.specs.Field.{when, refusal}
-use Rattle.layout.specs.Rule.{rule_of}
-use Rattle.layout.specs.Read.{Got, got, fault, keep, one, decode, fields_of, faulty_of, zeros}
+use Rattle.numbers.specs.Field.{when}
+use Rattle.layout.specs.Rule.{rule_of, refusal_of}
+use Rattle.layout.specs.Read.{Got, got, fault, keep, one, decode, fields_of, zeros}
 use Rattle.layout.specs.Write.{Made, made, bad, after, lay, encode, coded_of, badly}
 use Rattle.layout.specs.declared.Field.{Field}
 use Rattle.layout.specs.declared.Field.TheVariants.{Number, Reserved, Wide, Optional, Least, Version, Flags, Nothing}
@@ -23,12 +24,12 @@ use Rattle.layout.specs.declared.Coded.{Coded}
 use Rattle.numbers.proofs.Laws.{pow_pos, length-bytes}
 use Rattle.boxes.specs.Header.{header_of}
 use Rattle.boxes.specs.declared.header.Header.{Header}
-use Rattle.boxes.specs.declared.header.Found.TheVariants as found
 use Rattle.boxes.proofs.Within.{Within, header-within}
 use Rattle.put.specs.Put.{Wrote, wrote, put_of}
-use Rattle.put.specs.declared.Put.{Put}
 use Rattle.put.proofs.Stores.{sets-append}
 use Rattle.put.proofs.Placed.{done}
+use Rattle.numbers.specs.declared.Refusal.{Refusal}
+use Rattle.numbers.specs.declared.Refusal.TheVariants as refusal
 
 -- no field is wider than 8 bytes
 pub width-8 : (f : Field) (v fl : ℕ) → (rule_of f v fl).width ≤ 8
@@ -48,7 +49,7 @@ width_of r f v fl e = omega (arith, ap (λ r. r.width) e, width-8 f v fl)
 kept_in : (end : ℕ) (t : Bool) (vs : List ℕ) (k x : ℕ) (g : Got) → fields_of end (when t (set vs k x) vs) (when t (k + 1) k) g ≡ fields_of end vs k (keep t x g)
 unfolding when
 kept_in end true vs k x (got xs e) = ap (λ n. fields_of end (set vs k x) n (got xs e)) (add-one k)
-kept_in end true vs k x (fault n p) = refl
+kept_in end true vs k x (fault q) = refl
 kept_in end false vs k x g = refl
 
 module _ (layout : List Field) (d : Field) (end : ℕ) (b : List ℕ) (i at v fl : ℕ) (vs : List ℕ) (k : ℕ) (r : Rule) (inside : i < length layout) (e : r ≡ rule_of (get_or layout i d) v fl) where
@@ -61,22 +62,22 @@ module _ (layout : List Field) (d : Field) (end : ℕ) (b : List ℕ) (i at v fl
       ap (λ l. decode l b at v fl) (drop-cons layout i d inside)
       ∙ ap (λ r. one r b at (λ x. decode (drop (suc i) layout) b (at + r.width) (when r.version x v) (when r.flags x fl))) (sym e)
 
-  pub short : length b < at + r.width → faulty_of 1 at ≡ fields_of end vs k (decode (drop i layout) b at v fl)
+  pub short : length b < at + r.width → Err (refusal.Cut at) ≡ fields_of end vs k (decode (drop i layout) b at v fl)
   unfolding one when
   short h =
-      let go : decode (drop i layout) b at v fl ≡ fault 1 at = opened ∙ simp (lt-ltb (length b) (at + r.width) h) in
+      let go : decode (drop i layout) b at v fl ≡ fault (refusal.Cut at) = opened ∙ simp (lt-ltb (length b) (at + r.width) h) in
       sym (ap (fields_of end vs k) go)
 
-  pub low : (x : ℕ) → at + r.width ≤ length b → x ≡ be r.width b at → x < r.low → faulty_of r.number at ≡ fields_of end vs k (decode (drop i layout) b at v fl)
+  pub low : (x : ℕ) → at + r.width ≤ length b → x ≡ be r.width b at → x < r.low → Err (refusal_of r at) ≡ fields_of end vs k (decode (drop i layout) b at v fl)
   unfolding one when
   low x h q l =
-      let go : decode (drop i layout) b at v fl ≡ fault r.number at = opened ∙ simp (le-ltb (length b) (at + r.width) h, ← q, lt-ltb x r.low l) in
+      let go : decode (drop i layout) b at v fl ≡ fault (refusal_of r at) = opened ∙ simp (le-ltb (length b) (at + r.width) h, ← q, lt-ltb x r.low l) in
       sym (ap (fields_of end vs k) go)
 
-  pub high : (x : ℕ) → at + r.width ≤ length b → x ≡ be r.width b at → r.low ≤ x → r.high < x → faulty_of r.number at ≡ fields_of end vs k (decode (drop i layout) b at v fl)
+  pub high : (x : ℕ) → at + r.width ≤ length b → x ≡ be r.width b at → r.low ≤ x → r.high < x → Err (refusal_of r at) ≡ fields_of end vs k (decode (drop i layout) b at v fl)
   unfolding one when
   high x h q l u =
-      let go : decode (drop i layout) b at v fl ≡ fault r.number at = opened ∙ simp (le-ltb (length b) (at + r.width) h, ← q, le-ltb x r.low l, lt-ltb r.high x u) in
+      let go : decode (drop i layout) b at v fl ≡ fault (refusal_of r at) = opened ∙ simp (le-ltb (length b) (at + r.width) h, ← q, le-ltb x r.low l, lt-ltb r.high x u) in
       sym (ap (fields_of end vs k) go)
 
   pub more : (x : ℕ) → at + r.width ≤ length b → x ≡ be r.width b at → r.low ≤ x → x ≤ r.high →
@@ -89,7 +90,7 @@ module _ (layout : List Field) (d : Field) (end : ℕ) (b : List ℕ) (i at v fl
       rw (e1, e2, e3, e4, add-one i) (kept_in end r.kept vs k x (rest x)) ∙ sym (ap (fields_of end vs k) go)
 
 pub all : (layout : List Field) (end : ℕ) (b : List ℕ) (i at v fl : ℕ) (vs : List ℕ) (k : ℕ) → i ≡ length layout →
-    record { number = 0; place = at; end = end; values = vs } ≡ fields_of end vs k (decode (drop i layout) b at v fl)
+    Ok (record { place = at; end = end; values = vs }) ≡ fields_of end vs k (decode (drop i layout) b at v fl)
 unfolding decode
 all layout end b i at v fl vs k e = sym (ap (λ l. fields_of end vs k (decode l b at v fl)) (ap (λ n. drop n layout) e ∙ drop-length layout))
 
@@ -157,14 +158,14 @@ range Flags v fl = omega arith
 range Nothing v fl = omega arith
 
 -- a value in its range is stored
-pub laid : (r : Rule) (f : Field) (v fl x : ℕ) → r ≡ rule_of f v fl → x ≤ r.high → (at : ℕ) (buf out : List ℕ) (p : Put) → at + r.width ≤ length buf → wrote p out ≡ put_of r.width x at buf →
+pub laid : (r : Rule) (f : Field) (v fl x : ℕ) → r ≡ rule_of f v fl → x ≤ r.high → (at : ℕ) (buf out : List ℕ) (p : Result ℕ Refusal) → at + r.width ≤ length buf → wrote p out ≡ put_of r.width x at buf →
     out ≡ sets buf at (bytes r.width x)
 laid r f v fl x e h at buf out p l q =
     let b : x < 256 ^ r.width = omega (arith, range f v fl, ap (λ i. i.high) e, ap (λ i. 256 ^ i.width) e) in
     cc (q ∙ sym (done r.width x at buf (width_of r f v fl e) b l))
 
 -- a box whose header was read: its part is as long as it says, and the header lies in it
-pub part-of : (b : List ℕ) (h : Header) → header_of b 0 true ≡ found.Is h → (h.size ≡ length (take h.size b)) × (h.length ≤ length (take h.size b))
+pub part-of : (b : List ℕ) (h : Header) → header_of b 0 true ≡ Ok h → (h.size ≡ length (take h.size b)) × (h.length ≤ length (take h.size b))
 part-of b h e =
     let w : Within b 0 h = header-within b 0 h true e in
     let l : length (take h.size b) ≡ h.size = length-take-le h.size b (omega (arith, w.inside)) in

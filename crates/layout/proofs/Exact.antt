@@ -1,4 +1,5 @@
 -- One field more of a box that is as we write it. Assumes nothing.
+use Rattle.std.specs.Prelude.{Result, Ok, Err}
 use mathlib.Core.Path.{◌≡◌, refl, sym, ap, ap₂, ◌∙◌}
 use mathlib.Core.List.{List, ◌∷◌}
 use mathlib.Core.Bool.{Bool, true, false}
@@ -12,10 +13,9 @@ use borrow.Author.Tests.{lt-ltb, le-ltb, eq-eqb, ne_eqb, eqb-true, eqb-false}
 use Rattle.numbers.specs.Number.{be}
 use Rattle.numbers.specs.Field.{when, number_of}
 use Rattle.numbers.specs.declared.Refusal.{Refusal}
-use Rattle.numbers.specs.declared.U64.{U64}
-use Rattle.numbers.specs.declared.U64.TheVariants.{Is, Refused}
-use Rattle.numbers.proofs.Chain.{by64, there, lacks, is_le}
-use Rattle.layout.specs.Rule.{rule_of}
+use Rattle.numbers.specs.declared.Refusal.TheVariants as refusal
+use Rattle.numbers.proofs.Chain.{there, lacks, is_le}
+use Rattle.layout.specs.Rule.{rule_of, refusal_of}
 use Rattle.layout.specs.Read.{Got, got, fault, keep, one, decode}
 use Rattle.layout.specs.Canonical.{standard, followed, exact, ours}
 use Rattle.layout.specs.declared.Field.{Field}
@@ -23,12 +23,12 @@ use Rattle.layout.specs.declared.rule.Rule.{Rule}
 use Rattle.layout.proofs.Cases.{width_of}
 
 -- a field that is asked for by its rule is read, or it is cut
-module _ (r : Rule) (f : Field) (v fl : ℕ) (e : r ≡ rule_of f v fl) (b : List ℕ) (at : ℕ) (u : U64) (q : u ≡ number_of r.width b at) where
-  pub field-there : (x : ℕ) → u ≡ Is x → (at + r.width ≤ length b) × (x ≡ be r.width b at)
-  field-there x h = there by64 r.width b at u (q ∙ sym (is_le _ _ _ r.width 8 (width_of r f v fl e) refl)) x h
+module _ (r : Rule) (f : Field) (v fl : ℕ) (e : r ≡ rule_of f v fl) (b : List ℕ) (at : ℕ) (u : Result ℕ Refusal) (q : u ≡ number_of r.width b at) where
+  pub field-there : (x : ℕ) → u ≡ Ok x → (at + r.width ≤ length b) × (x ≡ be r.width b at)
+  field-there x h = there r.width b at u (q ∙ sym (is_le _ _ _ r.width 8 (width_of r f v fl e) refl)) x h
 
-  pub field-lacks : (z : Refusal) → u ≡ Refused z → length b < at + r.width
-  field-lacks z h = lacks by64 r.width b at u (q ∙ sym (is_le _ _ _ r.width 8 (width_of r f v fl e) refl)) z h
+  pub field-lacks : (z : Refusal) → u ≡ Err z → length b < at + r.width
+  field-lacks z h = lacks r.width b at u (q ∙ sym (is_le _ _ _ r.width 8 (width_of r f v fl e) refl)) z h
 
 neither : (t : Bool) → when t false false ≡ false
 unfolding when
@@ -37,19 +37,19 @@ neither false = refl
 
 kept-followed : (n : ℕ) (b : List ℕ) (x : ℕ) (g : Got) → followed n b (keep true x g) ≡ followed n b g
 kept-followed n b x (got vs e) = refl
-kept-followed n b x (fault k p) = refl
+kept-followed n b x (fault q) = refl
 
 -- the faults of a field come first, by the tests of `one` and of `standard`
-sorted : (n : ℕ) (b : List ℕ) (at x k : ℕ) (short low high kept own s : Bool) (g : Got) →
-    when (when kept s (when own s false)) (followed n b (when short (fault 1 at) (when low (fault k at) (when high (fault k at) (keep kept x g))))) false
+sorted : (n : ℕ) (b : List ℕ) (at x : ℕ) (q : Refusal) (short low high kept own s : Bool) (g : Got) →
+    when (when kept s (when own s false)) (followed n b (when short (fault (refusal.Cut at)) (when low (fault q) (when high (fault q) (keep kept x g))))) false
     ≡ when short false (when (when low false (when high false (when kept true own))) (when s (followed n b g) false) false)
 unfolding when
-sorted n b at x k true low high kept own s g = neither (when kept s (when own s false))
-sorted n b at x k false true high kept own s g = neither (when kept s (when own s false))
-sorted n b at x k false false true kept own s g = neither (when kept s (when own s false))
-sorted n b at x k false false false true own s g = ap (λ t. when s t false) (kept-followed n b x g)
-sorted n b at x k false false false false true s g = refl
-sorted n b at x k false false false false false s g = refl
+sorted n b at x q true low high kept own s g = neither (when kept s (when own s false))
+sorted n b at x q false true high kept own s g = neither (when kept s (when own s false))
+sorted n b at x q false false true kept own s g = neither (when kept s (when own s false))
+sorted n b at x q false false false true own s g = ap (λ t. when s t false) (kept-followed n b x g)
+sorted n b at x q false false false false true s g = refl
+sorted n b at x q false false false false false s g = refl
 
 -- the field first, then those after it
 pub exact-step : (f : Field) (fs : List Field) (n : ℕ) (b : List ℕ) (at v fl : ℕ) →
@@ -57,7 +57,7 @@ pub exact-step : (f : Field) (fs : List Field) (n : ℕ) (b : List ℕ) (at v fl
     let x = be r.width b at in
     exact (f ∷ fs) n b at v fl ≡ when (ltb (length b) (at + r.width)) false (when (ours r x) (exact fs n b (at + r.width) (when r.version x v) (when r.flags x fl)) false)
 unfolding exact standard decode one
-exact-step f fs n b at v fl = sorted n b at (be (rule_of f v fl).width b at) (rule_of f v fl).number _ _ _ _ _ _ _
+exact-step f fs n b at v fl = sorted n b at (be (rule_of f v fl).width b at) (refusal_of (rule_of f v fl) at) _ _ _ _ _ _ _
 
 -- the row from its i-th field on
 module _ (layout : List Field) (d : Field) (n : ℕ) (b : List ℕ) (i at v fl : ℕ) (r : Rule) (inside : i < length layout) (e : r ≡ rule_of (get_or layout i d) v fl) where

@@ -1,22 +1,23 @@
 -- Worked examples of the definitions, computed: one row with every kind of field. Assumes nothing.
+use Rattle.std.specs.Prelude.{Result, Ok, Err, Some, None}
 use mathlib.Core.Path.{◌≡◌, refl}
 use mathlib.Core.List.{List, [], ◌∷◌, ◌++◌}
 use mathlib.Core.Bool.{true, false}
 use Prim.Native.Nat.{ℕ, ◌+◌}
 use lib.ListN.{length, replicate}
 use Rattle.numbers.specs.Number.{be, bytes}
-use Rattle.numbers.specs.Field.{refusal, field, when}
+use Rattle.numbers.specs.Field.{field, when}
+use Rattle.numbers.specs.declared.Refusal.TheVariants as refusal
+use Rattle.numbers.specs.declared.Refusal.{Refusal}
 use Rattle.put.specs.Put.{wrote}
-use Rattle.put.specs.declared.Put.TheVariants as put
 use Rattle.layout.specs.Rule.{rule_of}
-use Rattle.layout.specs.Read.{one, decode, read_of, rest_of, faulty_of}
+use Rattle.layout.specs.Read.{one, decode, read_of, rest_of}
 use Rattle.layout.specs.Write.{lay, encode, write_of, padded, slotted}
 use Rattle.layout.specs.Canonical.{standard, exact, canonical_of, slots, most, limit}
 use Rattle.layout.specs.Table.{cut_of}
 use Rattle.layout.specs.declared.Field.{Field}
 use Rattle.layout.specs.declared.Field.TheVariants.{Number, Reserved, Wide, Optional, Least, Version, Flags}
 use Rattle.layout.specs.declared.read.Fields.{Fields}
-use Rattle.layout.specs.declared.table.Cut.TheVariants.{Whole, At}
 
 -- a time of 4 or 8 bytes, a field under flag 2, two reserved bytes that are 3, a number that is not 0, a number
 abbrev row : List Field
@@ -28,8 +29,8 @@ kind = 0x61626364
 abbrev box : List ℕ → List ℕ
 box body = bytes 4 (8 + length body) ++ bytes 4 kind ++ body
 
-abbrev of : List ℕ → ℕ → Fields
-of values at = record { number = 0; place = at; end = at; values = slotted values }
+abbrev of : List ℕ → ℕ → Result Fields Refusal
+of values at = Ok (record { place = at; end = at; values = slotted values })
 
 -- version 1, flag 2 set
 abbrev wide : List ℕ
@@ -39,7 +40,7 @@ read_wide : read_of kind row wide ≡ of (1 ∷ 2 ∷ 5 ∷ 6 ∷ 7 ∷ 8 ∷ []
 unfolding be bytes field when rule_of one decode
 read_wide = refl
 
-write-wide : write_of kind row (slotted (1 ∷ 2 ∷ 5 ∷ 6 ∷ 7 ∷ 8 ∷ [])) [] (replicate 30 9) ≡ wrote (put.Done 29) (wide ++ replicate 1 9)
+write-wide : write_of kind row (slotted (1 ∷ 2 ∷ 5 ∷ 6 ∷ 7 ∷ 8 ∷ [])) [] (replicate 30 9) ≡ wrote (Ok 29) (wide ++ replicate 1 9)
 unfolding bytes when rule_of lay encode
 write-wide = refl
 
@@ -52,12 +53,12 @@ unfolding be bytes field when rule_of one decode
 read-narrow = refl
 
 -- a value under a flag that is not set is 13
-write-unset : write_of kind row (slotted (0 ∷ 1 ∷ 5 ∷ 6 ∷ 7 ∷ 8 ∷ [])) [] (replicate 30 9) ≡ wrote (put.Refused (refusal 13 0)) (replicate 30 9)
+write-unset : write_of kind row (slotted (0 ∷ 1 ∷ 5 ∷ 6 ∷ 7 ∷ 8 ∷ [])) [] (replicate 30 9) ≡ wrote (Err refusal.Unwritable) (replicate 30 9)
 unfolding bytes when rule_of lay encode
 write-unset = refl
 
 -- a tail is written behind the fields, and counts in the size
-write-tail : write_of kind (padded (Number 1 ∷ [])) (slotted (5 ∷ [])) (bytes 2 258) (replicate 11 9) ≡ wrote (put.Done 11) (box (bytes 1 5 ++ bytes 2 258))
+write-tail : write_of kind (padded (Number 1 ∷ [])) (slotted (5 ∷ [])) (bytes 2 258) (replicate 11 9) ≡ wrote (Ok 11) (box (bytes 1 5 ++ bytes 2 258))
 unfolding bytes when rule_of lay encode
 write-tail = refl
 
@@ -79,19 +80,19 @@ unfolding be bytes field when rule_of one decode
 refused-rest = refl
 
 -- the first fault, field by field: 7 for the version, 8 for a value, 1 for what is cut; another type is 8 at 4
-bad-version : read_of kind row (box (bytes 1 2)) ≡ faulty_of 7 8
+bad-version : read_of kind row (box (bytes 1 2)) ≡ Err (refusal.Version 8)
 unfolding be bytes field when rule_of one decode
 bad-version = refl
 
-least : read_of kind row (box (bytes 1 0 ++ bytes 3 0 ++ bytes 4 5 ++ bytes 2 3 ++ bytes 1 0)) ≡ faulty_of 8 18
+least : read_of kind row (box (bytes 1 0 ++ bytes 3 0 ++ bytes 4 5 ++ bytes 2 3 ++ bytes 1 0)) ≡ Err (refusal.Value 18)
 unfolding be bytes field when rule_of one decode
 least = refl
 
-cut-last : read_of kind row (box (bytes 1 0 ++ bytes 3 0 ++ bytes 4 5 ++ bytes 2 3 ++ bytes 1 7 ++ bytes 1 8)) ≡ faulty_of 1 19
+cut-last : read_of kind row (box (bytes 1 0 ++ bytes 3 0 ++ bytes 4 5 ++ bytes 2 3 ++ bytes 1 7 ++ bytes 1 8)) ≡ Err (refusal.Cut 19)
 unfolding be bytes field when rule_of one decode
 cut-last = refl
 
-other : read_of 0x61626365 row wide ≡ faulty_of 8 4
+other : read_of 0x61626365 row wide ≡ Err (refusal.Value 4)
 unfolding be bytes field when rule_of one decode
 other = refl
 
@@ -175,10 +176,10 @@ unfolding limit most slots rule_of when
 widest = refl
 
 -- tables
-uncut : cut_of 2 4 (replicate 9 0) 1 ≡ Whole
+uncut : cut_of 2 4 (replicate 9 0) 1 ≡ None
 unfolding cut_of when
 uncut = refl
 
-cut_at : cut_of 9 4 (replicate 9 0) 0 ≡ At 8
+cut_at : cut_of 9 4 (replicate 9 0) 0 ≡ Some 8
 unfolding cut_of when
 cut_at = refl

@@ -1,4 +1,5 @@
 -- What `write` answers, way by way. Assumes nothing.
+use Rattle.std.specs.Prelude.{Result, Ok, Err}
 use mathlib.Core.Path.{◌≡◌, refl, sym, ap, ap₂, ◌∙◌}
 use mathlib.Core.List.{List, [], ◌∷◌, ◌++◌, append_assoc}
 use mathlib.Core.Bool.{Bool, true, false}
@@ -10,7 +11,8 @@ use lib.Seq.{sets, sets-eq, take_at, length-sets, length-take-le}
 use lib.Dec.{ltb}
 use borrow.Author.Tests.{lt-ltb, le-ltb}
 use Rattle.numbers.specs.Number.{be, bytes}
-use Rattle.numbers.specs.Field.{when, refusal}
+use Rattle.numbers.specs.Field.{when}
+use Rattle.numbers.specs.declared.Refusal.TheVariants as refusal
 use Rattle.put.specs.Put.{Wrote, wrote}
 use Rattle.put.specs.Put as put
 use Rattle.put.proofs.Placed.{has_room}
@@ -19,10 +21,9 @@ use Rattle.numbers.proofs.Chain.{is_lt, not-lt}
 use Rattle.layout.specs.Read.{zeros}
 use Rattle.layout.specs.Write.{Made, made, bad, coded_of, full, place, placed}
 use Rattle.layout.specs.declared.Coded.{Coded}
-use Rattle.put.specs.declared.Put.{Put}
-use Rattle.put.specs.declared.Put.TheVariants.{Done, Refused}
 use Rattle.numbers.proofs.Laws.{length-bytes}
 use Rattle.put.proofs.Stores.{sets-append}
+use Rattle.numbers.specs.declared.Refusal.{Refusal}
 
 pub length-full : (kind : ℕ) (cs tail : List ℕ) → length (full kind cs tail) ≡ 8 + length cs + length tail
 length-full kind cs tail =
@@ -47,20 +48,20 @@ three buf a b c n ea en h =
     ∙ ap (λ k. (a ++ b ++ c) ++ drop k buf) (zero-add (length (a ++ b ++ c)))
 
 -- a header and a part, written where there is room for them
-pub headed : (kind size : ℕ) (buf out : List ℕ) (p : Put) → 8 ≤ size → size < 2 ^ 32 → 8 ≤ length buf → wrote p out ≡ header_in kind size 0 buf → out ≡ sets buf 0 (plain_bytes kind size)
+pub headed : (kind size : ℕ) (buf out : List ℕ) (p : Result ℕ Refusal) → 8 ≤ size → size < 2 ^ 32 → 8 ≤ length buf → wrote p out ≡ header_in kind size 0 buf → out ≡ sets buf 0 (plain_bytes kind size)
 headed kind size buf out p a b h e =
     cc (e ∙ sym (not-lt _ _ _ size 8 a (is_lt _ _ _ size (2 ^ 32) b (has_room (plain_bytes kind size) 8 0 buf (let l : 0 + 8 ≤ length buf = omega arith in l)))))
 
-pub parted : (s : List ℕ) (at : ℕ) (buf out : List ℕ) (p : Put) → at + length s ≤ length buf → wrote p out ≡ put.placed s (length s) at buf → out ≡ sets buf at s
+pub parted : (s : List ℕ) (at : ℕ) (buf out : List ℕ) (p : Result ℕ Refusal) → at + length s ≤ length buf → wrote p out ≡ put.placed s (length s) at buf → out ≡ sets buf at s
 parted s at buf out p h e = cc (e ∙ sym (has_room s (length s) at buf h))
 
 module _ (kind : ℕ) (tail buf : List ℕ) (c : Coded) where
-  pub not_made : (m : Made) → c ≡ coded_of (zeros 192) 0 m → c.ok ≡ false → wrote (Refused (refusal 13 0)) buf ≡ placed kind tail buf m
+  pub not_made : (m : Made) → c ≡ coded_of (zeros 192) 0 m → c.ok ≡ false → wrote (Err refusal.Unwritable) buf ≡ placed kind tail buf m
   not_made (made cs) e f = let z : true ≡ false = sym (ap (λ c. c.ok) e) ∙ f in let y : ◌≡◌ {A = ℕ} 0 1 = cc in absurd (omega arith)
   not_made bad e f = refl
 
   pub too_long : (m : Made) → c ≡ coded_of (zeros 192) 0 m → c.ok ≡ true → c.len ≤ 192 → 4294967295 - 8 - c.len < length tail →
-      wrote (Refused (refusal 13 0)) buf ≡ placed kind tail buf m
+      wrote (Err refusal.Unwritable) buf ≡ placed kind tail buf m
   unfolding when
   too_long (made cs) e f l h =
       let n : c.len ≡ 0 + length cs = ap (λ c. c.len) e in
@@ -68,19 +69,19 @@ module _ (kind : ℕ) (tail buf : List ℕ) (c : Coded) where
   too_long bad e f l h = refl
 
   pub too_small : (m : Made) → c ≡ coded_of (zeros 192) 0 m → c.ok ≡ true → c.len ≤ 192 → length tail ≤ 4294967295 - 8 - c.len →
-      length buf < 8 + c.len + length tail → wrote (Refused (refusal 12 (8 + c.len + length tail))) buf ≡ placed kind tail buf m
+      length buf < 8 + c.len + length tail → wrote (Err (refusal.TooSmall (8 + c.len + length tail))) buf ≡ placed kind tail buf m
   unfolding when
   too_small (made cs) e f l h b =
       let n : c.len ≡ 0 + length cs = ap (λ c. c.len) e in
       let t : 8 + c.len + length tail ≡ length (full kind cs tail) = omega (arith, length-full kind cs tail) in
-      ap (λ n. wrote (Refused (refusal 12 n)) buf) t
+      ap (λ n. wrote (Err (refusal.TooSmall n)) buf) t
       ∙ sym (simp (le-ltb 4294967295 (length (full kind cs tail)) (omega arith), lt-ltb (length buf) (length (full kind cs tail)) (omega arith)))
   too_small bad e f l h b = let z : true ≡ false = sym f ∙ ap (λ c. c.ok) e in let y : ◌≡◌ {A = ℕ} 0 1 = cc in absurd (omega arith)
 
   pub all_placed : (m : Made) → c ≡ coded_of (zeros 192) 0 m → c.ok ≡ true → c.len ≤ 192 → length tail ≤ 4294967295 - 8 - c.len →
-      8 + c.len + length tail ≤ length buf → (b1 b2 b3 : List ℕ) (p q r : Put) → wrote p b1 ≡ header_in kind (8 + c.len + length tail) 0 buf →
+      8 + c.len + length tail ≤ length buf → (b1 b2 b3 : List ℕ) (p q r : Result ℕ Refusal) → wrote p b1 ≡ header_in kind (8 + c.len + length tail) 0 buf →
       wrote q b2 ≡ put.placed (take c.len c.bytes) (length (take c.len c.bytes)) 8 b1 → wrote r b3 ≡ put.placed tail (length tail) (8 + c.len) b2 →
-      wrote (Done (8 + c.len + length tail)) b3 ≡ placed kind tail buf m
+      wrote (Ok (8 + c.len + length tail)) b3 ≡ placed kind tail buf m
   unfolding when
   all_placed (made cs) e f l h b b1 b2 b3 p q r e1 e2 e3 =
       let n : c.len ≡ length cs = ap (λ c. c.len) e ∙ zero-add (length cs) in
@@ -96,7 +97,7 @@ module _ (kind : ℕ) (tail buf : List ℕ) (c : Coded) where
       let done : b3 ≡ full kind cs tail ++ drop (length (full kind cs tail)) buf =
       f3 ∙ ap (λ b. sets b (8 + c.len) tail) (f2 ∙ ap (λ b. sets b 8 cs) f1)
       ∙ three buf head cs tail (8 + c.len) (length-append (bytes 4 (8 + length cs + length tail)) (bytes 4 kind) ∙ ap₂ (λ (i j : ℕ). i + j) (length-bytes 4 (8 + length cs + length tail)) (length-bytes 4 kind)) (omega arith) (omega arith) in
-      ap₂ (λ (n : ℕ) (b : List ℕ). wrote (Done n) b) t done
+      ap₂ (λ (n : ℕ) (b : List ℕ). wrote (Ok n) b) t done
       ∙ sym (simp (le-ltb 4294967295 (length (full kind cs tail)) (omega arith), le-ltb (length buf) (length (full kind cs tail)) (omega arith)))
   all_placed bad e f l h b b1 b2 b3 p q r e1 e2 e3 = let z : true ≡ false = sym f ∙ ap (λ c. c.ok) e in let y : ◌≡◌ {A = ℕ} 0 1 = cc in absurd (omega arith)
 

@@ -24,7 +24,7 @@ ours r x = when (ltb x r.low) false (when (ltb r.high x) false (when r.kept true
 -- n bytes follow the fields
 abbrev pub followed : ℕ → List ℕ → Got → Bool
 followed n b (got xs e) = eqb (e + n) (length b)
-followed n b (fault k p) = false
+followed n b (fault q) = false
 
 -- the fields from `at` on are as we write them: each is read, the reserved ones have their values, and n bytes follow
 unfoldable pub exact : List Field → ℕ → List ℕ → ℕ → ℕ → ℕ → Bool

@@ -1,10 +1,10 @@
 -- Writing a box that is a row of fields. Assumes nothing.
-use Rattle.std.specs.Prelude.{ℕ, ◌+◌, ◌-◌, ◌^◌, List, [], ◌∷◌, ◌++◌, Bool, true, false, length, get_or, drop, replicate, ltb}
+use Rattle.std.specs.Prelude.{ℕ, ◌+◌, ◌-◌, ◌^◌, List, [], ◌∷◌, ◌++◌, Bool, true, false, length, get_or, drop, replicate, ltb, Ok, Err}
 use Rattle.std.proofs.lemmas.List.Edits.{sets}
 use Rattle.numbers.specs.Number.{bytes}
-use Rattle.numbers.specs.Field.{when, refusal}
+use Rattle.numbers.specs.Field.{when}
+use Rattle.numbers.specs.declared.Refusal.TheVariants as refusal
 use Rattle.put.specs.Put.{Wrote, wrote}
-use Rattle.put.specs.declared.Put.TheVariants as put
 use Rattle.layout.specs.Rule.{rule_of, version_after, flags_after}
 use Rattle.layout.specs.Read.{zeros}
 use Rattle.layout.specs.declared.Field.{Field}
@@ -52,13 +52,13 @@ full kind fields tail = bytes 4 (8 + length fields + length tail) ++ bytes 4 kin
 -- 13 where a size has no four bytes, then 12; else the bytes from the buffer's start on, and what lies behind them
 abbrev pub place : List ℕ → List ℕ → Wrote
 place buf bs =
-    when (ltb (2 ^ 32 - 1) (length bs)) (wrote (put.Refused (refusal 13 0)) buf)
-    (when (ltb (length buf) (length bs)) (wrote (put.Refused (refusal 12 (length bs))) buf)
-    (wrote (put.Done (length bs)) (bs ++ drop (length bs) buf)))
+    when (ltb (2 ^ 32 - 1) (length bs)) (wrote (Err refusal.Unwritable) buf)
+    (when (ltb (length buf) (length bs)) (wrote (Err (refusal.TooSmall (length bs))) buf)
+    (wrote (Ok (length bs)) (bs ++ drop (length bs) buf)))
 
 abbrev pub placed : ℕ → List ℕ → List ℕ → Made → Wrote
 placed kind tail buf (made fields) = place buf (full kind fields tail)
-placed kind tail buf bad = wrote (put.Refused (refusal 13 0)) buf
+placed kind tail buf bad = wrote (Err refusal.Unwritable) buf
 
 abbrev pub write_of : ℕ → List Field → List ℕ → List ℕ → List ℕ → Wrote
 write_of kind fs xs tail buf = placed kind tail buf (encode fs xs 0 0 0)

@@ -1,4 +1,4 @@
-#![tactic(auto)]
+#![tactic(auto, unfolding(numbers::specs::Field::when, numbers::specs::Field::field))]
 // A box as a row of fields: one reader for any row. One writer for any row stands beside it (`layout_write`).
 pub mod read;
 pub mod rule;

@@ -1,34 +1,21 @@
 // Reading a box: its header, then its fields, field after field: each first whole, then allowed.
 ghost use Rattle.std.specs.Prelude.{◌≡◌, ◌≤◌, length};
-ghost use Rattle.layout.specs.Read.{zeros, faulty_of, fields_of, decode, read_of, rest_of};
+ghost use Rattle.layout.specs.Read.{zeros, fields_of, decode, read_of, rest_of};
 
 use crate::{Field, rule};
 use boxes::header;
-use boxes::header::Found;
-use numbers::U64;
+use numbers::Refusal;
 
-// Fault 0, the position after the last field, the box's end, and the values kept; or the fault and its position.
+// The position after the last field, the box's end, and the values kept.
 #[derive(Clone, Copy)]
 pub struct Fields {
-    pub number: u32,
     pub place: usize,
     pub end: usize,
     pub values: [u64; 24],
 }
 
-fn faulty(number: u32, place: usize) -> Fields
-    ensures { result ≡ faulty_of number place }
-{
-    Fields {
-        number: number,
-        place: place,
-        end: 0,
-        values: [0; 24],
-    }
-}
-
 // The fields of a row, from `from` on.
-fn row_at(b: &[u8], row: [Field; 24], from: usize) -> Fields
+fn row_at(b: &[u8], row: [Field; 24], from: usize) -> Result<Fields, Refusal>
     requires { from ≤ length b.now }
     ensures { result ≡ fields_of (length b.now) (zeros 24) 0 (decode row b.now from 0 0) }
 {
@@ -42,14 +29,12 @@ fn row_at(b: &[u8], row: [Field; 24], from: usize) -> Fields
         let f = row[i];
         let r = rule::rule_of(f, version, flags);
         let width = r.width;
-        let U64::Is(x) = numbers::number_at(b, at, width) else {
-            return faulty(1, at);
-        };
+        let x = numbers::number_at(b, at, width)?;
         if x < r.low {
-            return faulty(r.number, at);
+            return Err(r.refusal(at));
         }
         if r.high < x {
-            return faulty(r.number, at);
+            return Err(r.refusal(at));
         }
         if r.kept {
             values[slot] = x;
@@ -64,29 +49,23 @@ fn row_at(b: &[u8], row: [Field; 24], from: usize) -> Fields
         at = at + width;
         i = i + 1;
     }
-    Fields {
-        number: 0,
+    Ok(Fields {
         place: at,
         end: b.len(),
-        values: values,
-    }
+        values,
+    })
 }
 
 // The fields of a box of this type, which is lent from its header on. Another type is 8 where the type stands.
-pub fn by(b: &[u8], kind: u32, row: [Field; 24]) -> Fields
+pub fn by(b: &[u8], kind: u32, row: [Field; 24]) -> Result<Fields, Refusal>
     ensures { result ≡ read_of kind row b.now }
 {
-    match header::read(b, 0, true) {
-        Found::Refused(q) => faulty(q.number, q.detail),
-        Found::Is(h) => {
-            if h.kind == kind {
-                let end = h.size;
-                let from = h.length;
-                return row_at(&b[..end], row, from);
-            }
-            faulty(8, 4)
-        }
+    let h = header::read(b, 0, true)?;
+    if h.kind != kind {
+        return Err(Refusal::Value(4));
     }
+    let end = h.size;
+    row_at(&b[..end], row, h.length)
 }
 
 // What lies behind the fields, up to the box's end, as the part of the lent bytes where it lies; no bytes where the box
@@ -94,7 +73,9 @@ pub fn by(b: &[u8], kind: u32, row: [Field; 24]) -> Fields
 pub fn rest(b: &[u8], kind: u32, row: [Field; 24]) -> &[u8]
     ensures { result.now ≡ rest_of (read_of kind row b.now) b.now }
 {
-    let got = by(b, kind, row);
+    let Ok(got) = by(b, kind, row) else {
+        return &b[..0];
+    };
     let place = got.place;
     let end = got.end;
     if end <= place {

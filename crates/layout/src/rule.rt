@@ -1,19 +1,32 @@
 // What is asked of a field, once the version and the flags are known.
 ghost use Rattle.std.specs.Prelude.{◌≡◌, ◌-◌, ◌≤◌, ◌^◌, min};
-ghost use Rattle.layout.specs.Rule.{plain, is_set, rule_of};
+ghost use Rattle.layout.specs.Rule.{plain, is_set, rule_of, refusal_of};
 
 use crate::Field;
+use numbers::Refusal;
 
 #[derive(Clone, Copy)]
 pub struct Rule {
     pub width: usize,
     pub low: u64,
     pub high: u64,
-    pub number: u32,
     pub kept: bool,
     pub fixed: u64,
     pub version: bool,
     pub flags: bool,
+}
+
+impl Rule {
+    // The refusal of a value that stands at `at`.
+    pub(crate) fn refusal(self, at: usize) -> Refusal
+        ensures { result ≡ refusal_of self at }
+    {
+        if self.version {
+            Refusal::Version(at)
+        } else {
+            Refusal::Value(at)
+        }
+    }
 }
 
 // The largest number of each width.
@@ -50,7 +63,6 @@ fn any(w: u8) -> Rule
         width: n,
         low: 0,
         high: most(n),
-        number: 8,
         kept: true,
         fixed: 0,
         version: false,
@@ -76,10 +88,9 @@ pub fn rule_of(f: Field, version: u64, flags: u64) -> Rule
         Field::Reserved(w, c) => {
             let width = cap(w);
             Rule {
-                width: width,
+                width,
                 low: 0,
                 high: most(width),
-                number: 8,
                 kept: false,
                 fixed: c,
                 version: false,
@@ -91,10 +102,9 @@ pub fn rule_of(f: Field, version: u64, flags: u64) -> Rule
         Field::Least(w, n) => {
             let width = cap(w);
             Rule {
-                width: width,
+                width,
                 low: n,
                 high: most(width),
-                number: 8,
                 kept: true,
                 fixed: 0,
                 version: false,
@@ -105,7 +115,6 @@ pub fn rule_of(f: Field, version: u64, flags: u64) -> Rule
             width: 1,
             low: lo as u64,
             high: hi as u64,
-            number: 7,
             kept: true,
             fixed: 0,
             version: true,
@@ -115,7 +124,6 @@ pub fn rule_of(f: Field, version: u64, flags: u64) -> Rule
             width: 3,
             low: 0,
             high: 0xff_ffff,
-            number: 8,
             kept: true,
             fixed: 0,
             version: false,
@@ -125,7 +133,6 @@ pub fn rule_of(f: Field, version: u64, flags: u64) -> Rule
             width: 0,
             low: 0,
             high: 0,
-            number: 8,
             kept: false,
             fixed: 0,
             version: false,

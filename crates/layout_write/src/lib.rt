@@ -1,4 +1,4 @@
-#![tactic(auto)]
+#![tactic(auto, unfolding(numbers::specs::Field::when, numbers::specs::Field::field))]
 // Writing a box that is a row of fields (`layout`): its fields' bytes first, in an array of its own; then header, fields
 // and tail into the lent buffer.
 ghost use Rattle.std.specs.Prelude.{◌≡◌, [], ◌≤◌, length};
@@ -10,7 +10,6 @@ ghost use Rattle.layout.specs.Write.{encode, coded_of, badly, write_of};
 use boxes::header;
 use layout::{Coded, Field, rule};
 use numbers::Refusal;
-use put::Put;
 
 fn choose(kept: bool, a: u64, b: u64) -> u64
     ensures { result ≡ when kept a b }
@@ -49,7 +48,7 @@ fn code(row: [Field; 24], values: [u64; 24]) -> Coded
         if r.high < x {
             return uncoded();
         }
-        put::number(&mut bytes, len, width, x);
+        let _ = put::number(&mut bytes, len, width, x);
         if r.kept {
             slot = slot + 1;
         }
@@ -60,46 +59,48 @@ fn code(row: [Field; 24], values: [u64; 24]) -> Coded
     }
     Coded {
         ok: true,
-        len: len,
-        bytes: bytes,
+        len,
+        bytes,
     }
 }
 
 // A box of this type: header, fields and tail, from the buffer's start on. Its length; or 13 where a value or the size
 // can not be written, and last 12 with the length needed, and the buffer as it was.
-pub fn by(buf: &mut [u8], kind: u32, row: [Field; 24], values: [u64; 24], tail: &[u8]) -> Put
+pub fn by(
+    buf: &mut [u8],
+    kind: u32,
+    row: [Field; 24],
+    values: [u64; 24],
+    tail: &[u8],
+) -> Result<usize, Refusal>
     ensures { wrote result buf.new ≡ write_of kind row values tail.now buf.old }
 {
     let coded = code(row, values);
     if !coded.ok {
-        return Put::Refused(Refusal {
-            number: 13,
-            detail: 0,
-        });
+        return Err(Refusal::Unwritable);
     }
     let len = coded.len;
     if 0xffff_ffff - 8 - len < tail.len() {
-        return Put::Refused(Refusal {
-            number: 13,
-            detail: 0,
-        });
+        return Err(Refusal::Unwritable);
     }
     let total = 8 + len + tail.len();
     if buf.len() < total {
-        return Put::Refused(Refusal {
-            number: 12,
-            detail: total,
-        });
+        return Err(Refusal::TooSmall(total));
     }
     let bytes = coded.bytes;
-    header::write(buf, 0, kind, total);
-    put::part(buf, 8, &bytes[..len]);
-    put::part(buf, 8 + len, tail);
-    Put::Done(total)
+    let _ = header::write(buf, 0, kind, total);
+    let _ = put::part(buf, 8, &bytes[..len]);
+    let _ = put::part(buf, 8 + len, tail);
+    Ok(total)
 }
 
 // A box with no tail.
-pub fn plain(buf: &mut [u8], kind: u32, row: [Field; 24], values: [u64; 24]) -> Put
+pub fn plain(
+    buf: &mut [u8],
+    kind: u32,
+    row: [Field; 24],
+    values: [u64; 24],
+) -> Result<usize, Refusal>
     ensures { wrote result buf.new ≡ write_of kind row values [] buf.old }
 {
     let none = [0; 1];

@@ -13,15 +13,12 @@ ghost use Rattle.std.specs.Prelude.{◌≡◌, ◌≤◌, length};
 mod say;
 
 use lanes::Taken;
-use lookup::Synced;
-use numbers::U32;
+use numbers::Refusal;
 use samples::{Located, Sample};
-use stbl::Found;
 use std::env::{Env, FillError};
 use std::fs::File;
 use std::io::{ErrorKind, Read};
 use std::{fs, io};
-use tableboxes::Places;
 use tables::Track;
 
 // How many samples are told of a track, and how many are looked up behind them.
@@ -65,16 +62,16 @@ fn same(a: Located, b: Located) -> bool {
 
 fn has_sync(file: &[u8], track: Track, s: Sample) -> bool {
     match lookup::is_sync(file, track, s.number) {
-        Synced::Is(b) => bit(b) == bit(s.sync),
-        Synced::Refused(_) => false,
+        Ok(b) => bit(b) == bit(s.sync),
+        Err(_) => false,
     }
 }
 
 // Whether the lookup has the same sample.
 fn looks_up(file: &[u8], track: Track, s: Sample) -> bool {
     match locate::sample(file, track, s.number) {
-        samples::Found::Is(t) => same(located(s), t) & has_sync(file, track, s),
-        samples::Found::Refused(_) => false,
+        Ok(t) => same(located(s), t) & has_sync(file, track, s),
+        Err(_) => false,
     }
 }
 
@@ -99,7 +96,7 @@ fn list_lane(rt: &impl Print, file: &[u8], track: Track) -> u32 {
                 return i;
             }
             Taken::Over => {
-                say::refused(rt, 9, 0);
+                say::refused(rt, Refusal::Overflow);
                 say::text(rt, b"\n");
                 return i;
             }
@@ -118,10 +115,10 @@ fn list_lane(rt: &impl Print, file: &[u8], track: Track) -> u32 {
 
 fn print_sync(rt: &impl Print, file: &[u8], track: Track, number: u32) {
     match lookup::is_sync(file, track, number) {
-        Synced::Is(b) => say::next_number(rt, bit(b)),
-        Synced::Refused(q) => {
+        Ok(b) => say::next_number(rt, bit(b)),
+        Err(q) => {
             say::text(rt, b"\t");
-            say::refused(rt, q.number, q.detail);
+            say::refused(rt, q);
         }
     }
 }
@@ -130,10 +127,10 @@ fn print_lookup(rt: &impl Print, file: &[u8], track: Track, number: u32) {
     say::text(rt, b"sample");
     say::next_number(rt, number as u64);
     match locate::sample(file, track, number) {
-        samples::Found::Is(s) => print_fields(rt, s),
-        samples::Found::Refused(q) => {
+        Ok(s) => print_fields(rt, s),
+        Err(q) => {
             say::text(rt, b"\t");
-            say::refused(rt, q.number, q.detail);
+            say::refused(rt, q);
         }
     }
     print_sync(rt, file, track, number);
@@ -165,24 +162,24 @@ fn list_track(rt: &impl Print, file: &[u8], track: Track) {
     print_lookup(rt, file, track, FAR);
 }
 
-fn print_refused(rt: &impl Print, number: u32, detail: usize) {
-    say::refused(rt, number, detail);
+fn print_refused(rt: &impl Print, q: Refusal) {
+    say::refused(rt, q);
     say::text(rt, b"\n");
 }
 
 fn list_stbl(rt: &impl Print, part: &[u8]) {
     match tableboxes::find(part) {
-        Places::Refused(q) => print_refused(rt, q.number, q.detail),
-        Places::Are(boxes) => match stbl::track(part, boxes) {
-            Found::Refused(q) => print_refused(rt, q.number, q.detail),
-            Found::Is(track) => list_track(rt, part, track),
+        Err(q) => print_refused(rt, q),
+        Ok(boxes) => match stbl::track(part, boxes) {
+            Err(q) => print_refused(rt, q),
+            Ok(track) => list_track(rt, part, track),
         },
     }
 }
 
 // The entry at `at`, and where the next one begins; the pack's end where this one is not whole.
 fn list_entry(rt: &impl Print, pack: &[u8], at: usize) -> usize {
-    let U32::Is(n) = numbers::u32_at(pack, at) else {
+    let Ok(n) = numbers::read::<u32>(pack, at) else {
         return pack.len();
     };
     if pack.len() < at {

@@ -1,4 +1,5 @@
 // The words of a line.
+use numbers::Refusal;
 
 pub(crate) fn text(rt: &impl Print, s: &[u8]) {
     let _ = rt.write_all(s);
@@ -22,8 +23,8 @@ pub(crate) fn next_signed(rt: &impl Print, n: i64) {
     }
 }
 
-pub(crate) fn refused(rt: &impl Print, number: u32, detail: usize) {
+pub(crate) fn refused(rt: &impl Print, q: Refusal) {
     text(rt, b"refused");
-    next_number(rt, number as u64);
-    next_number(rt, detail as u64);
+    next_number(rt, u64::from(q.code()));
+    next_number(rt, q.detail() as u64);
 }

@@ -1,5 +1,6 @@
 -- What a listing says: where the tables agree there are as many records as stsz counts, record i is the i-th sample's
 -- numbers, what lies past the records stays; and a refusal leaves the buffer alone. Assumes nothing.
+use Rattle.std.specs.Prelude.{Ok, Err}
 use Prim.Native.Nat.{ℕ, zero, suc, ◌+◌, ◌*◌}
 use mathlib.Core.Path.{◌≡◌, refl, ap, ◌∙◌}
 use mathlib.Core.List.{List, [], ◌∷◌, ◌++◌}
@@ -9,12 +10,12 @@ use lib.ListN.{length, take, drop, length-append}
 use lib.Seq.{sets, sets-eq}
 use lib.Dec.{leb}
 use borrow.Author.Tests.{leb-true}
-use Rattle.numbers.specs.Field.{refusal, when}
+use Rattle.numbers.specs.Field.{when}
+use Rattle.numbers.specs.declared.Refusal.TheVariants as refusal
 use Rattle.numbers.specs.declared.Refusal.{Refusal}
 use Rattle.samples.specs.Lists.{all_held}
 use Rattle.samples.specs.Records.{numbers_of, records_of, output, list_of}
 use Rattle.samples.specs.declared.Sample.{Sample}
-use Rattle.samples.specs.declared.Listed.TheVariants.{Done, Refused}
 use Rattle.tables.specs.Tables.{sum, total, values_of, pairs, groups}
 use Rattle.tables.specs.Samples.{samples_of}
 use Rattle.tables.specs.declared.Track.{Track}
@@ -45,7 +46,7 @@ nth (suc i) (x ∷ l) m s past e =
 -- LISTINGS
 
 -- all is told: how many there are, and the buffer
-pub done-is : (l : List Sample) (o q : List ℕ) (n : ℕ) → output (Done n) q ≡ list_of l o → (n ≡ length l) × (q ≡ records_of l ++ drop (length l * 7) o)
+pub done-is : (l : List Sample) (o q : List ℕ) (n : ℕ) → output (Ok n) q ≡ list_of l o → (n ≡ length l) × (q ≡ records_of l ++ drop (length l * 7) o)
 unfolding when
 done-is l o q n e = cases (all_held l) (leb (length l * 7) (length o)) refl e
   where
@@ -53,7 +54,7 @@ done-is l o q n e = cases (all_held l) (leb (length l * 7) (length o)) refl e
     z = omega (arith, length-records l)
 
     cases : (a b : Bool) → leb (length l * 7) (length o) ≡ b
-        → output (Done n) q ≡ when a (when b (output (Done (length l)) (sets o 0 (records_of l))) (output (Refused (refusal 12 (length l))) o)) (output (Refused (refusal 9 0)) o)
+        → output (Ok n) q ≡ when a (when b (output (Ok (length l)) (sets o 0 (records_of l))) (output (Err (refusal.TooSmall (length l))) o)) (output (Err refusal.Overflow) o)
         → (n ≡ length l) × (q ≡ records_of l ++ drop (length l * 7) o)
     cases true true h w =
         let g : q ≡ sets o 0 (records_of l) = cc in
@@ -62,16 +63,16 @@ done-is l o q n e = cases (all_held l) (leb (length l * 7) (length o)) refl e
     cases false b h w = let y : ◌≡◌ {A = ℕ} 0 1 = cc in absurd (omega arith)
 
 -- record i of a listing is the i-th sample's numbers
-pub record_is : (l m : List Sample) (o q : List ℕ) (n i : ℕ) (s : Sample) → output (Done n) q ≡ list_of l o → drop i l ≡ s ∷ m → take 7 (drop (i * 7) q) ≡ numbers_of s
+pub record_is : (l m : List Sample) (o q : List ℕ) (n i : ℕ) (s : Sample) → output (Ok n) q ≡ list_of l o → drop i l ≡ s ∷ m → take 7 (drop (i * 7) q) ≡ numbers_of s
 record_is l m o q n i s e h =
     ap (λ (r : List ℕ). take 7 (drop (i * 7) r)) (done-is l o q n e).1 ∙ ap (take 7) (nth i l m s (drop (length l * 7) o) h)
 
 -- a refusal leaves the buffer alone
-pub refused-keeps : (l : List Sample) (o q : List ℕ) (r : Refusal) → output (Refused r) q ≡ list_of l o → q ≡ o
+pub refused-keeps : (l : List Sample) (o q : List ℕ) (r : Refusal) → output (Err r) q ≡ list_of l o → q ≡ o
 unfolding when
 refused-keeps l o q r e = cases (all_held l) (leb (length l * 7) (length o)) e
   where
-    cases : (a b : Bool) → output (Refused r) q ≡ when a (when b (output (Done (length l)) (sets o 0 (records_of l))) (output (Refused (refusal 12 (length l))) o)) (output (Refused (refusal 9 0)) o) → q ≡ o
+    cases : (a b : Bool) → output (Err r) q ≡ when a (when b (output (Ok (length l)) (sets o 0 (records_of l))) (output (Err (refusal.TooSmall (length l))) o)) (output (Err refusal.Overflow) o) → q ≡ o
     cases true true w = let y : ◌≡◌ {A = ℕ} 0 1 = cc in absurd (omega arith)
     cases true false w = cc
     cases false b w = cc
@@ -79,5 +80,5 @@ refused-keeps l o q r e = cases (all_held l) (leb (length l * 7) (length o)) e
 -- where the tables agree, a listing has as many records as stsz counts
 pub agreed-listing : (f : List ℕ) (t : Track) (o q : List ℕ) (n : ℕ) → total (pairs f t.stts) ≡ t.stsz.count
     → sum (take t.stco.count (values_of (groups f t.stsc t.stco.count))) ≡ t.stsz.count
-    → output (Done n) q ≡ list_of (samples_of f t) o → n ≡ t.stsz.count
+    → output (Ok n) q ≡ list_of (samples_of f t) o → n ≡ t.stsz.count
 agreed-listing f t o q n a b e = (done-is (samples_of f t) o q n e).0 ∙ agreed f t a b

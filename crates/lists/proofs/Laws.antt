@@ -1,4 +1,5 @@
 -- What a walk over the samples left knows, step by step, of all samples. Assumes nothing.
+use Rattle.std.specs.Prelude.{Result, Option, Ok, Err, Some, None}
 use Prim.Native.Nat.{ℕ, ◌+◌, ◌*◌, ◌/◌, ◌≤◌, ◌<◌}
 use mathlib.Core.Path.{◌≡◌, refl, sym, ap, ◌∙◌}
 use mathlib.Core.List.{List, [], ◌∷◌}
@@ -7,21 +8,19 @@ use native.Mathlib.Omega.{arith}
 use lib.ListN.{length}
 use lib.Seq.{sets, length-sets}
 use lib.Dec.{leb}
-use Rattle.numbers.specs.Field.{refusal, when}
+use Rattle.numbers.specs.Field.{when}
+use Rattle.numbers.specs.declared.Refusal.TheVariants as refusal
 use Rattle.numbers.proofs.Chain.{by-true, by-false, is_le, not-le}
 use Rattle.put.proofs.Stores.{sets-append}
 use Rattle.samples.specs.Lists.{held, all_held}
 use Rattle.samples.specs.Records.{numbers_of, records_of, put_of, output, list_of}
 use Rattle.samples.specs.declared.Sample.{Sample}
-use Rattle.samples.specs.declared.Listed.{Listed}
-use Rattle.samples.specs.declared.Listed.TheVariants as listed
 use Rattle.tables.specs.Samples.{samples_of}
 use Rattle.tables.specs.declared.Track.{Track}
 use Rattle.tables.proofs.Lengths.{how-many}
 use Rattle.samples.proofs.Views.{Stuck}
 use Rattle.lists.specs.Count.{count_of, Filled}
-use Rattle.lists.specs.declared.Counted.{Counted}
-use Rattle.lists.specs.declared.Counted.TheVariants as counted
+use Rattle.numbers.specs.declared.Refusal.{Refusal}
 
 -- WHETHER ALL FIT
 
@@ -38,11 +37,11 @@ module _ (l : List Sample) where
 -- THE COUNT
 
 module _ (l : List Sample) where
-  pub count-all : (n : ℕ) → all_held l ≡ true → n ≡ length l → counted.Is n ≡ count_of l
+  pub count-all : (n : ℕ) → all_held l ≡ true → n ≡ length l → Some n ≡ count_of l
   unfolding count_of
-  count-all n h e = by-true _ _ _ (all_held l) h (ap counted.Is e)
+  count-all n h e = by-true _ _ _ (all_held l) h (ap Some e)
 
-  pub count-over : all_held l ≡ false → counted.Over ≡ count_of l
+  pub count-over : all_held l ≡ false → None ≡ count_of l
   unfolding count_of
   count-over h = by-false _ _ _ (all_held l) h refl
 
@@ -58,10 +57,10 @@ module _ (all l : List Sample) (n : ℕ) (w : Walk all l n) where
   pub goes_on : (s : Sample) (m : List Sample) → (l ≡ s ∷ m) × (held s ≡ true) → Walk all m (n + 1)
   goes_on s m e = record { fit = sym (held-rest l s m e) ∙ w.fit; many = omega (arith, w.many, ap length e.0) }
 
-  pub ends : l ≡ [] → counted.Is n ≡ count_of all
+  pub ends : l ≡ [] → Some n ≡ count_of all
   ends e = count-all all n (sym w.fit ∙ held_none l e) (omega (arith, w.many, ap length e))
 
-  pub stops : Stuck l → counted.Over ≡ count_of all
+  pub stops : Stuck l → None ≡ count_of all
   stops e = count-over all (sym w.fit ∙ held-stuck l e)
 
 -- a track has no more samples than stsz counts
@@ -70,39 +69,38 @@ few f t = omega (arith, how-many f t)
 
 -- THE LISTING
 
-number_of : Counted → ℕ
-number_of (counted.Is n) = n
-number_of counted.Over = 0
+number_of : Option ℕ → ℕ
+number_of (Some n) = n
+number_of None = 0
 
 module _ (l : List Sample) where
-  pub told : (r : Counted) (n : ℕ) → r ≡ count_of l → r ≡ counted.Is n → (all_held l ≡ true) × (n ≡ length l)
+  pub told : (r : Option ℕ) (n : ℕ) → r ≡ count_of l → r ≡ Some n → (all_held l ≡ true) × (n ≡ length l)
   unfolding count_of when number_of
   told r n e q = cases (all_held l) (sym e ∙ q)
     where
-      cases : (b : Bool) → when b (counted.Is (length l)) counted.Over ≡ counted.Is n → (b ≡ true) × (n ≡ length l)
+      cases : (b : Bool) → when b (Some (length l)) None ≡ Some n → (b ≡ true) × (n ≡ length l)
       cases true w = (refl, sym (ap number_of w))
       cases false w = let z : ◌≡◌ {A = ℕ} 0 1 = cc in absurd (omega arith)
 
-  pub told_over : (r : Counted) → r ≡ count_of l → r ≡ counted.Over → all_held l ≡ false
+  pub told_over : (r : Option ℕ) → r ≡ count_of l → r ≡ None → all_held l ≡ false
   unfolding count_of when
   told_over r e q = cases (all_held l) (sym e ∙ q)
     where
-      cases : (b : Bool) → when b (counted.Is (length l)) counted.Over ≡ counted.Over → b ≡ false
+      cases : (b : Bool) → when b (Some (length l)) None ≡ None → b ≡ false
       cases true w = let z : ◌≡◌ {A = ℕ} 0 1 = cc in absurd (omega arith)
       cases false w = refl
 
   module _ (o : List ℕ) where
-    pub list_over : (r : Listed) → r ≡ listed.Refused (refusal 9 0) → all_held l ≡ false → output r o ≡ list_of l o
-    list_over r e h = by-false _ _ _ (all_held l) h (ap (λ (q : Listed). output q o) e)
+    pub list_over : all_held l ≡ false → output (Err refusal.Overflow) o ≡ list_of l o
+    list_over h = by-false _ _ _ (all_held l) h refl
 
-    pub list-small : (n : ℕ) (r : Listed) → r ≡ listed.Refused (refusal 12 n) → (all_held l ≡ true) × (n ≡ length l) → length o / 7 < n → output r o ≡ list_of l o
-    list-small n r e h k =
-        by-true _ _ _ (all_held l) h.0 (not-le _ _ _ (length l * 7) (length o) (omega (arith, k, h.1))
-        (ap (λ (q : Listed). output q o) e ∙ ap (λ (j : ℕ). output (listed.Refused (refusal 12 j)) o) h.1))
+    pub list-small : (n : ℕ) → (all_held l ≡ true) × (n ≡ length l) → length o / 7 < n → output (Err (refusal.TooSmall n)) o ≡ list_of l o
+    list-small n h k =
+        by-true _ _ _ (all_held l) h.0 (not-le _ _ _ (length l * 7) (length o) (omega (arith, k, h.1)) (ap (λ (j : ℕ). output (Err (refusal.TooSmall j)) o) h.1))
 
-    pub list_all : (n : ℕ) (q : List ℕ) → (all_held l ≡ true) × (n ≡ length l) → n ≤ length o / 7 → q ≡ sets o 0 (records_of l) → output (listed.Done n) q ≡ list_of l o
+    pub list_all : (n : ℕ) (q : List ℕ) → (all_held l ≡ true) × (n ≡ length l) → n ≤ length o / 7 → q ≡ sets o 0 (records_of l) → output (Ok n) q ≡ list_of l o
     list_all n q h k e =
-        by-true _ _ _ (all_held l) h.0 (is_le _ _ _ (length l * 7) (length o) (omega (arith, k, h.1)) (ap (λ (j : ℕ). output (listed.Done j) q) h.1 ∙ ap (output (listed.Done (length l))) e))
+        by-true _ _ _ (all_held l) h.0 (is_le _ _ _ (length l * 7) (length o) (omega (arith, k, h.1)) (ap (λ (j : ℕ). output (Ok j) q) h.1 ∙ ap (output (Ok (length l))) e))
 
 -- a record more: what is stored, and then the records after it
 pub put-room : (o : List ℕ) (i : ℕ) (s : Sample) → i < length o / 7 → put_of o i s ≡ sets o (i * 7) (numbers_of s)
@@ -144,13 +142,13 @@ module _ (all l : List Sample) (o p : List ℕ) (i : ℕ) (w : Filling all l o p
             ap (λ (r : List ℕ). sets r ((i + 1) * 7) (records_of m)) g ∙ put-more p i s m h ∙ ap (λ (k : List Sample). sets p (i * 7) (records_of k)) (sym e.0) ∙ w.then room;
       }
 
-  pub fills-end : l ≡ [] → (counted.Is i ≡ count_of all) × Filled all o p
+  pub fills-end : l ≡ [] → (Some i ≡ count_of all) × Filled all o p
   fills-end e = (
     ends all l i w.walk e,
     λ room h. sym (ap (λ (k : List Sample). sets p (i * 7) (records_of k)) e) ∙ w.then room,
   )
 
-  pub fills-not : Stuck l → (counted.Over ≡ count_of all) × Filled all o p
+  pub fills-not : Stuck l → (None ≡ count_of all) × Filled all o p
   fills-not e = (stops all l i w.walk e, λ room h. absurd (never h))
     where
       never : all_held all ≡ true → ⊥
@@ -160,5 +158,5 @@ module _ (all l : List Sample) (o p : List ℕ) (i : ℕ) (w : Filling all l o p
           omega arith
 
 -- the listing, where all fit and have room
-pub lists-all : (l : List Sample) (o p : List ℕ) (n : ℕ) → Filled l o p → (all_held l ≡ true) × (n ≡ length l) → n ≤ length o / 7 → output (listed.Done n) p ≡ list_of l o
+pub lists-all : (l : List Sample) (o p : List ℕ) (n : ℕ) → Filled l o p → (all_held l ≡ true) × (n ≡ length l) → n ≤ length o / 7 → output (Ok n) p ≡ list_of l o
 lists-all l o p n f h k = list_all l o n p h k (f (omega (arith, k, h.1)) h.0)

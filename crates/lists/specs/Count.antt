@@ -1,16 +1,14 @@
 -- How many samples there are, of any list of samples. Assumes nothing.
-use Rattle.std.specs.Prelude.{ℕ, ◌/◌, ◌≤◌, ◌≡◌, List, [], ◌∷◌, Bool, true, ◌&&◌, length, ltb}
+use Rattle.std.specs.Prelude.{ℕ, ◌/◌, ◌≤◌, ◌≡◌, List, [], ◌∷◌, Bool, true, ◌&&◌, length, ltb, Option, Some, None}
 use Rattle.std.proofs.lemmas.List.Edits.{sets}
 use Rattle.numbers.specs.Field.{when}
 use Rattle.samples.specs.Lists.{time_bound, all_held}
 use Rattle.samples.specs.Records.{records_of, record-length}
 use Rattle.samples.specs.declared.Sample.{Sample}
-use Rattle.lists.specs.declared.Counted.{Counted}
-use Rattle.lists.specs.declared.Counted.TheVariants.{Is, Over}
 
 -- how many there are, where every one fits (A13)
-unfoldable pub count_of : List Sample → Counted
-count_of l = when (all_held l) (Is (length l)) Over
+unfoldable pub count_of : List Sample → Option ℕ
+count_of l = when (all_held l) (Some (length l)) None
 
 -- INSIDE
 

@@ -1,17 +1,14 @@
-#![tactic(auto)]
+#![tactic(auto, unfolding(numbers::specs::Field::when, numbers::specs::Field::field))]
 // The samples of a track as its tables tell them: how many there are, and all of them as records in a lent buffer.
 ghost use Rattle.std.specs.Prelude.{◌≡◌, true};
 ghost use Rattle.tables.specs.Tables.{chunks};
 ghost use Rattle.tables.specs.Samples.{samples_of};
 ghost use Rattle.samples.specs.Lists.{all_held};
 ghost use Rattle.samples.specs.Records.{output, list_of};
-ghost use Rattle.samples.specs.declared.Listed.TheVariants.{Refused};
-ghost use Rattle.numbers.specs.Field.{refusal};
 ghost use Rattle.lists.specs.Count.{count_of, Filled, all_low};
 
 use lanes::Taken;
 use numbers::Refusal;
-use samples::Listed;
 use tables::{Chunks, Track};
 
 // The sizes of as many samples as this come to less than 2^63, and so do their durations.
@@ -19,16 +16,9 @@ const MANY: u32 = 0x8000_0000;
 
 const HALF: u64 = 0x8000_0000_0000_0000;
 
-// How many samples a track has. Over: one of them does not fit (refusal 9).
-#[derive(Clone, Copy)]
-pub enum Counted {
-    Is(usize),
-    Over,
-}
-
 // The samples one by one: counted, and put into the buffer as far as it has room. One loop serves the listing and the
 // count, so that the lane's step is there once, inside of it.
-fn fill(file: &[u8], track: Track, out: &mut [u64]) -> Counted
+fn fill(file: &[u8], track: Track, out: &mut [u64]) -> Option<usize>
     ensures count { result ≡ count_of (samples_of file.now track) }
     ensures records { Filled (samples_of file.now track) out.old out.new }
 {
@@ -37,10 +27,10 @@ fn fill(file: &[u8], track: Track, out: &mut [u64]) -> Counted
     loop {
         match lanes::next(file, track, lane) {
             Taken::End => {
-                return Counted::Is(i);
+                return Some(i);
             }
             Taken::Over => {
-                return Counted::Over;
+                return None;
             }
             Taken::One {
                 sample,
@@ -55,7 +45,7 @@ fn fill(file: &[u8], track: Track, out: &mut [u64]) -> Counted
 }
 
 // The samples counted one by one, by a buffer that has room for none.
-fn walk(file: &[u8], track: Track) -> Counted
+fn walk(file: &[u8], track: Track) -> Option<usize>
     ensures { result ≡ count_of (samples_of file.now track) }
 {
     let mut none = [0u64; 1];
@@ -94,35 +84,26 @@ fn surely_held(file: &[u8], track: Track) -> bool
 }
 
 // How many samples a track has, where each of them fits: by the tables' entries alone, in all but odd files.
-pub fn count(file: &[u8], track: Track) -> Counted
+pub fn count(file: &[u8], track: Track) -> Option<usize>
     ensures { result ≡ count_of (samples_of file.now track) }
 {
     if surely_held(file, track) {
-        return Counted::Is(lookup::count(file, track) as usize);
+        return Some(lookup::count(file, track) as usize);
     }
     walk(file, track)
 }
 
-fn refuse(number: u32, detail: usize) -> Listed
-    ensures { result ≡ Refused (refusal number detail) }
-{
-    Listed::Refused(Refusal {
-        number: number,
-        detail: detail,
-    })
-}
-
-// Every sample as a record, one behind the other; or the buffer as it was, and 9 where a sample does not fit, then 12
-// where the records have no room.
-pub fn list(file: &[u8], track: Track, out: &mut [u64]) -> Listed
+// Every sample as a record, one behind the other; or the buffer as it was, and Overflow where a sample does not fit, then
+// TooSmall where the records have no room.
+pub fn list(file: &[u8], track: Track, out: &mut [u64]) -> Result<usize, Refusal>
     ensures { output result out.new ≡ list_of (samples_of file.now track) out.old }
 {
-    let Counted::Is(n) = count(file, track) else {
-        return refuse(9, 0);
+    let Some(n) = count(file, track) else {
+        return Err(Refusal::Overflow);
     };
     if out.len() / samples::RECORD < n {
-        return refuse(12, n);
+        return Err(Refusal::TooSmall(n));
     }
     fill(file, track, out);
-    Listed::Done(n)
+    Ok(n)
 }

@@ -1,4 +1,5 @@
 -- One law for each return, over plain variables. Assumes nothing.
+use Rattle.std.specs.Prelude.{Result, Option, Ok, Err, Some, None}
 use Prim.Native.Nat.{ℕ, zero, suc, ◌+◌, ◌-◌, ◌*◌, ◌^◌, ◌≤◌, ◌<◌, min}
 use mathlib.Core.Path.{◌≡◌, refl, sym, ap, ◌∙◌}
 use mathlib.Core.List.{List, [], ◌∷◌}
@@ -9,19 +10,16 @@ use lib.Seq.{drop-nil}
 use lib.IntN.{ℤ}
 use lib.Dec.{eqb, ltb}
 use borrow.Author.Tests.{eq-eqb, ne_eqb, lt-ltb, le-ltb}
-use Rattle.numbers.specs.Field.{when, refusal, or_zero}
+use Rattle.numbers.specs.Field.{when, or_zero}
+use Rattle.numbers.specs.declared.Refusal.TheVariants as refusal
 use Rattle.numbers.specs.declared.Refusal.{Refusal}
 use Rattle.signed.specs.Signed.{signed}
 use Rattle.samples.proofs.Fits as fits
 use Rattle.samples.specs.Lists.{held, located, first_of, lookup_of, bytes_of}
 use Rattle.samples.specs.declared.Sample.{Sample}
-use Rattle.samples.specs.declared.Found.{Found}
-use Rattle.samples.specs.declared.Found.TheVariants as found
 use Rattle.tables.specs.Tables.{sum, values_of, pairs, offset_at, size_at, syncs, number_at, numbers}
 use Rattle.tables.specs.Samples.{first_or, risen, sync_at, samples_of}
 use Rattle.tables.specs.Rows.{pair_rows, group_rows, rows_of}
-use Rattle.tables.specs.declared.Optional.{Optional}
-use Rattle.tables.specs.declared.Optional.TheVariants.{Absent, At}
 use Rattle.tables.specs.declared.Table.{Table}
 use Rattle.tables.specs.declared.Rows.{Rows}
 use Rattle.tables.specs.declared.Track.{Track}
@@ -32,8 +30,8 @@ use Rattle.seek.specs.declared.Value.TheVariants as value
 use Rattle.seek.specs.declared.Spot.{Spot}
 use Rattle.seek.specs.declared.Spot.TheVariants as spot
 use Rattle.lookup.specs.Lookup.{flagged, sync_of, shift_at, sample_at}
-use Rattle.lookup.specs.declared.Synced.TheVariants as synced
 use Rattle.lookup.proofs.Entries.{pair-told, pair-few, in_chunks, by-groups, group-few, group-many, lasts, count-is, bytes-are, sample-there, few-before, place-there, flag-there}
+use Rattle.samples.specs.declared.Located.{Located}
 
 -- HOW MANY
 
@@ -70,26 +68,26 @@ summed f t n b e q = q ∙ sym (bytes-are f t n e)
 
 -- COMPOSITION OFFSETS
 
-module _ (f : List ℕ) (o : Optional) (k : ℕ) where
-  pub shift-absent : o ≡ Absent → 0 ≡ shift_at f o k
-  shift-absent e = sym (ap (λ (x : Optional). shift_at f x k) e ∙ ap (first_or 0) (drop-nil k))
+module _ (f : List ℕ) (o : Option Table) (k : ℕ) where
+  pub shift-absent : o ≡ None → 0 ≡ shift_at f o k
+  shift-absent e = sym (ap (λ (x : Option Table). shift_at f x k) e ∙ ap (first_or 0) (drop-nil k))
 
-  module _ (t : Table) (eo : o ≡ At t) (w : Rows) (ew : w ≡ pair_rows t) (r : Value) (er : r ≡ value_of (values_of (rows_of f w)) k) where
+  module _ (t : Table) (eo : o ≡ Some t) (w : Rows) (ew : w ≡ pair_rows t) (r : Value) (er : r ≡ value_of (values_of (rows_of f w)) k) where
     pub shift_is : (v s : ℕ) → r ≡ value.At v s → v ≡ shift_at f o k
-    shift_is v s e = sym (ap (λ (x : Optional). shift_at f x k) eo ∙ ap (first_or 0) (pair-told f t w ew k r er v s e).is)
+    shift_is v s e = sym (ap (λ (x : Option Table). shift_at f x k) eo ∙ ap (first_or 0) (pair-told f t w ew k r er v s e).is)
 
     pub shift_short : (q : ℕ) → r ≡ value.Few q → 0 ≡ shift_at f o k
-    shift_short q e = sym (ap (λ (x : Optional). shift_at f x k) eo ∙ ap (first_or 0) (pair-few f t w ew k r er q e).0)
+    shift_short q e = sym (ap (λ (x : Option Table). shift_at f x k) eo ∙ ap (first_or 0) (pair-few f t w ew k r er q e).0)
 
 -- SYNC NUMBERS
 
-module _ (f : List ℕ) (o : Optional) (n : ℕ) where
-  pub flag-all : o ≡ Absent → true ≡ sync_at (syncs f o) n
-  flag-all e = sym (ap (λ (x : Optional). sync_at (syncs f x) n) e)
+module _ (f : List ℕ) (o : Option Table) (n : ℕ) where
+  pub flag-all : o ≡ None → true ≡ sync_at (syncs f o) n
+  flag-all e = sym (ap (λ (x : Option Table). sync_at (syncs f x) n) e)
 
-  module _ (t : Table) (eo : o ≡ At t) (last i : ℕ) (g : risen last (drop i (numbers f t)) n ≡ risen 0 (numbers f t) n) where
+  module _ (t : Table) (eo : o ≡ Some t) (last i : ℕ) (g : risen last (drop i (numbers f t)) n ≡ risen 0 (numbers f t) n) where
     whole : risen last (drop i (numbers f t)) n ≡ sync_at (syncs f o) n
-    whole = g ∙ sym (ap (λ (x : Optional). sync_at (syncs f x) n) eo)
+    whole = g ∙ sym (ap (λ (x : Option Table). sync_at (syncs f x) n) eo)
 
     pub flag-end : t.count ≤ i → false ≡ sync_at (syncs f o) n
     flag-end h = sym (ap (λ (l : List ℕ). risen last l n) (list-nil (number_at f t.at) t.count i h)) ∙ whole
@@ -125,26 +123,25 @@ module _ (f : List ℕ) (o : Optional) (n : ℕ) where
 -- ONE SAMPLE
 
 module _ (n : ℕ) (s : Sample) where
-  module _ (q : Refusal) (e : q ≡ refusal 9 0) where
-    over_by : held s ≡ false → found.Refused q ≡ first_of n (s ∷ [])
-    unfolding when
-    over_by h = ap found.Refused e ∙ sym (ap (λ (b : Bool). when b (found.Is (located s)) (found.Refused (refusal 9 0))) h)
-
-    pub over-end : 2 ^ 64 ≤ s.offset + s.size → found.Refused q ≡ first_of n (s ∷ [])
-    over-end h = over_by (fits.no_end s h)
-
-    pub over-time : 2 ^ 63 ≤ s.time → found.Refused q ≡ first_of n (s ∷ [])
-    over-time h = over_by (fits.no-time s h)
-
-  is_held : held s ≡ true → found.Is (located s) ≡ first_of n (s ∷ [])
+  over_by : held s ≡ false → Err refusal.Overflow ≡ first_of n (s ∷ [])
   unfolding when
-  is_held h = sym (ap (λ (b : Bool). when b (found.Is (located s)) (found.Refused (refusal 9 0))) h)
+  over_by h = sym (ap (λ (b : Bool). when b (Ok (located s)) (Err refusal.Overflow)) h)
+
+  pub over-end : 2 ^ 64 ≤ s.offset + s.size → Err refusal.Overflow ≡ first_of n (s ∷ [])
+  over-end h = over_by (fits.no_end s h)
+
+  pub over-time : 2 ^ 63 ≤ s.time → Err refusal.Overflow ≡ first_of n (s ∷ [])
+  over-time h = over_by (fits.no-time s h)
+
+  is_held : held s ≡ true → Ok (located s) ≡ first_of n (s ∷ [])
+  unfolding when
+  is_held h = sym (ap (λ (b : Bool). when b (Ok (located s)) (Err refusal.Overflow)) h)
 
 pub told_is : (f : List ℕ) (t : Track) (k n at z m d v : ℕ) (co : ℤ) → n < 2 ^ 32 → at + z < 2 ^ 64 → m < 2 ^ 63
     → v ≡ shift_at f t.ctts k → co ≡ signed 4 v
-    → found.Is (record { offset = at; size = z; time = m; duration = d; composition = co }) ≡ first_of n (sample_at f t k n at z m d ∷ [])
+    → Ok (record { offset = at; size = z; time = m; duration = d; composition = co }) ≡ first_of n (sample_at f t k n at z m d ∷ [])
 told_is f t k n at z m d v co b h g ev ec =
-    ap (λ (x : ℤ). found.Is (record { offset = at; size = z; time = m; duration = d; composition = x })) (ec ∙ ap (signed 4) ev)
+    ap (λ (x : ℤ). Ok (record { offset = at; size = z; time = m; duration = d; composition = x })) (ec ∙ ap (signed 4) ev)
     ∙ is_held n (sample_at f t k n at z m d) (fits.held-is (sample_at f t k n at z m d) b h g)
 
 module _ (l : List Sample) where
@@ -158,28 +155,28 @@ module _ (l : List Sample) where
   sync-nth zero h = absurd (h refl)
   sync-nth (suc n) h = let e : n ≡ suc n - 1 = omega arith in ap (λ (k : ℕ). flagged (suc n) (drop k l)) e
 
-  module _ (n : ℕ) (q : Refusal) (e : q ≡ refusal 11 n) where
-    pub zero-absent : n ≡ 0 → found.Refused q ≡ lookup_of l n
+  module _ (n : ℕ) where
+    pub zero-absent : n ≡ 0 → Err (refusal.NoSample n) ≡ lookup_of l n
     unfolding lookup_of
-    zero-absent h = ap found.Refused e ∙ ap (λ (k : ℕ). found.Refused (refusal 11 k)) h ∙ sym (ap (lookup_of l) h)
+    zero-absent h = ap (λ (k : ℕ). Err (refusal.NoSample k)) h ∙ sym (ap (lookup_of l) h)
 
-    pub zero-unsync : n ≡ 0 → synced.Refused q ≡ sync_of l n
+    pub zero-unsync : n ≡ 0 → Err (refusal.NoSample n) ≡ sync_of l n
     unfolding sync_of
-    zero-unsync h = ap synced.Refused e ∙ ap (λ (k : ℕ). synced.Refused (refusal 11 k)) h ∙ sym (ap (sync_of l) h)
+    zero-unsync h = ap (λ (k : ℕ). Err (refusal.NoSample k)) h ∙ sym (ap (sync_of l) h)
 
     module _ (h : n ≡ 0 → ⊥) (g : length l ≤ n - 1) where
-      pub past-absent : found.Refused q ≡ lookup_of l n
-      past-absent = ap found.Refused e ∙ sym (lookup-nth n h ∙ ap (first_of n) (drop_of_length-le l g))
+      pub past-absent : Err (refusal.NoSample n) ≡ lookup_of l n
+      past-absent = sym (lookup-nth n h ∙ ap (first_of n) (drop_of_length-le l g))
 
-      pub past-unsync : synced.Refused q ≡ sync_of l n
-      past-unsync = ap synced.Refused e ∙ sym (sync-nth n h ∙ ap (flagged n) (drop_of_length-le l g))
+      pub past-unsync : Err (refusal.NoSample n) ≡ sync_of l n
+      past-unsync = sym (sync-nth n h ∙ ap (flagged n) (drop_of_length-le l g))
 
 module _ (f : List ℕ) (t : Track) (n : ℕ) (h : n ≡ 0 → ⊥) where
-  pub flag-of : (b : Bool) → n ≤ length (samples_of f t) → b ≡ sync_at (syncs f t.stss) n → synced.Is b ≡ sync_of (samples_of f t) n
+  pub flag-of : (b : Bool) → n ≤ length (samples_of f t) → b ≡ sync_at (syncs f t.stss) n → Ok b ≡ sync_of (samples_of f t) n
   flag-of b g e =
       let r = flag-there f t (n - 1) (omega arith) in
       let a : n - 1 + 1 ≡ n = omega arith in
-      sym (sync-nth (samples_of f t) n h ∙ ap (flagged n) r.is ∙ ap synced.Is (r.flag ∙ ap (λ (k : ℕ). sync_at (syncs f t.stss) k) a ∙ sym e))
+      sym (sync-nth (samples_of f t) n h ∙ ap (flagged n) r.is ∙ ap Ok (r.flag ∙ ap (λ (k : ℕ). sync_at (syncs f t.stss) k) a ∙ sym e))
 
   pub no_size : t.stsz.count ≤ n - 1 → length (samples_of f t) ≤ n - 1
   no_size g = omega (arith, count-is f t)
@@ -201,7 +198,7 @@ module _ (f : List ℕ) (t : Track) (n : ℕ) (h : n ≡ 0 → ⊥) where
         pub some-before : o ≤ n - 1
         some-before = few-before f t (n - 1) i o 0 0 g p in-chunk x
 
-        pub looked-up : (z at gone : ℕ) (a : Found) → z ≡ size_at f t.stsz (n - 1) → at ≡ offset_at f t.stco i → gone ≡ span_of f t.stsz (n - 1 - o) (n - 1)
+        pub looked-up : (z at gone : ℕ) (a : Result Located Refusal) → z ≡ size_at f t.stsz (n - 1) → at ≡ offset_at f t.stco i → gone ≡ span_of f t.stsz (n - 1 - o) (n - 1)
             → a ≡ first_of n (sample_at f t (n - 1) n (at + gone) z m d ∷ []) → a ≡ lookup_of (samples_of f t) n
         looked-up z at gone a ez ea eg y =
             let q = pair-told f t.stts w ew (n - 1) r er d m e in

@@ -1,15 +1,16 @@
 -- What holds of every track's samples and their lookup: a lookup is the list's own entry, whatever comes before it; times
 -- are the sums of the durations before, and rise where no duration but the last is 0. Assumes nothing.
+use Rattle.std.specs.Prelude.{Ok, Err}
 use Prim.Native.Nat.{ℕ, zero, suc, ◌+◌, ◌≤◌, ◌<◌}
 use mathlib.Core.Path.{◌≡◌, refl, ap, ◌∙◌}
 use mathlib.Core.List.{List, [], ◌∷◌}
 use mathlib.Core.Bool.{Bool, true, false}
 use native.Mathlib.Omega.{arith}
 use lib.ListN.{length, take, drop, drop_of_length-le}
-use Rattle.numbers.specs.Field.{when, refusal}
+use Rattle.numbers.specs.Field.{when}
+use Rattle.numbers.specs.declared.Refusal.TheVariants as refusal
 use Rattle.samples.specs.Lists.{held, located, first_of, lookup_of}
 use Rattle.samples.specs.declared.Sample.{Sample}
-use Rattle.samples.specs.declared.Found.TheVariants.{Is, Refused}
 use Rattle.tables.specs.Tables.{values_of, pairs, groups, chunks, sizes, shifts, Syncs, syncs}
 use Rattle.tables.specs.Samples.{place, rest, past_of, zipped, samples_of}
 use Rattle.tables.specs.declared.Track.{Track}
@@ -17,20 +18,20 @@ use Rattle.tables.specs.declared.Track.{Track}
 -- THE LOOKUP IS THE LISTING'S ENTRY
 
 module _ (f : List ℕ) (t : Track) (n : ℕ) where
-  pub none-past-the-end : length (samples_of f t) ≤ n → lookup_of (samples_of f t) (suc n) ≡ Refused (refusal 11 (suc n))
+  pub none-past-the-end : length (samples_of f t) ≤ n → lookup_of (samples_of f t) (suc n) ≡ Err (refusal.NoSample (suc n))
   unfolding lookup_of
   none-past-the-end h = ap (first_of (suc n)) (drop_of_length-le (samples_of f t) h)
 
   module _ (s : Sample) (l : List Sample) (e : drop n (samples_of f t) ≡ s ∷ l) where
-    by-held : (b : Bool) → held s ≡ b → lookup_of (samples_of f t) (suc n) ≡ when b (Is (located s)) (Refused (refusal 9 0))
+    by-held : (b : Bool) → held s ≡ b → lookup_of (samples_of f t) (suc n) ≡ when b (Ok (located s)) (Err refusal.Overflow)
     unfolding lookup_of
-    by-held b h = ap (first_of (suc n)) e ∙ ap (λ (x : Bool). when x (Is (located s)) (Refused (refusal 9 0))) h
+    by-held b h = ap (first_of (suc n)) e ∙ ap (λ (x : Bool). when x (Ok (located s)) (Err refusal.Overflow)) h
 
-    pub lookup-is-the-entry : held s ≡ true → lookup_of (samples_of f t) (suc n) ≡ Is (located s)
+    pub lookup-is-the-entry : held s ≡ true → lookup_of (samples_of f t) (suc n) ≡ Ok (located s)
     unfolding when
     lookup-is-the-entry h = by-held true h
 
-    pub lookup-does-not-fit : held s ≡ false → lookup_of (samples_of f t) (suc n) ≡ Refused (refusal 9 0)
+    pub lookup-does-not-fit : held s ≡ false → lookup_of (samples_of f t) (suc n) ≡ Err refusal.Overflow
     unfolding when
     lookup-does-not-fit h = by-held false h
 

@@ -1,4 +1,5 @@
 -- Worked examples: cases 1 and 2 of document 01 as lookups, on the bytes of tables' own examples. Assumes nothing.
+use Rattle.std.specs.Prelude.{Result, Ok, Err, None}
 use Prim.Native.Nat.{ℕ}
 use mathlib.Core.Path.{◌≡◌, refl}
 use mathlib.Core.List.{[], ◌∷◌}
@@ -6,21 +7,20 @@ use mathlib.Core.Bool.{true, false}
 use lib.IntN.{ℤ, pos, negsuc}
 use lib.ListN.{length}
 use Rattle.numbers.specs.Number.{be, bytes}
-use Rattle.numbers.specs.Field.{field, when, refusal}
+use Rattle.numbers.specs.Field.{field, when}
+use Rattle.numbers.specs.declared.Refusal.TheVariants as refusal
 use Rattle.signed.specs.Signed.{signed}
 use Rattle.samples.specs.Lists.{lookup_of, bytes_of}
-use Rattle.samples.specs.declared.Found.{Found}
-use Rattle.samples.specs.declared.Found.TheVariants as found
 use Rattle.tables.specs.Tables.{pair_at, group_at, offset_at, size_at, number_at, those}
 use Rattle.tables.specs.Samples.{sync_at, samples_of}
-use Rattle.tables.specs.declared.Optional.TheVariants.{Absent}
 use Rattle.tables.specs.declared.Track.{Track}
 use Rattle.tables.proofs.Vectors.{file, track, common}
 use Rattle.lookup.specs.Lookup.{sync_of}
-use Rattle.lookup.specs.declared.Synced.TheVariants as synced
+use Rattle.samples.specs.declared.Located.{Located}
+use Rattle.numbers.specs.declared.Refusal.{Refusal}
 
-abbrev is : ℕ → ℕ → ℕ → ℕ → ℤ → Found
-is o z m d c = found.Is (record { offset = o; size = z; time = m; duration = d; composition = c })
+abbrev is : ℕ → ℕ → ℕ → ℕ → ℤ → Result Located Refusal
+is o z m d c = Ok (record { offset = o; size = z; time = m; duration = d; composition = c })
 
 -- stts (3,1000)(3,500); stsc (1,2)(3,1) with chunks at 48, 78, 148, 198; sizes 10 to 60 by tens
 pub case-1-first : lookup_of (samples_of file track) 1 ≡ is 48 10 0 1000 (pos 7)
@@ -48,11 +48,11 @@ unfolding be bytes field when signed pair_at group_at offset_at size_at number_a
 case-1-sixth = refl
 
 -- sample 7 is 11; so is 0
-pub case-1-seventh : lookup_of (samples_of file track) 7 ≡ found.Refused (refusal 11 7)
+pub case-1-seventh : lookup_of (samples_of file track) 7 ≡ Err (refusal.NoSample 7)
 unfolding be bytes field when signed pair_at group_at offset_at size_at number_at lookup_of
 case-1-seventh = refl
 
-pub case-1-zeroth : lookup_of (samples_of file track) 0 ≡ found.Refused (refusal 11 0)
+pub case-1-zeroth : lookup_of (samples_of file track) 0 ≡ Err (refusal.NoSample 0)
 unfolding be bytes field when signed pair_at group_at offset_at size_at number_at lookup_of
 case-1-zeroth = refl
 
@@ -69,7 +69,7 @@ case-common-bytes : bytes_of (samples_of file common) ≡ 15
 unfolding be bytes field when signed pair_at group_at offset_at size_at number_at
 case-common-bytes = refl
 
-case-common-past : lookup_of (samples_of file common) 4 ≡ found.Refused (refusal 11 4)
+case-common-past : lookup_of (samples_of file common) 4 ≡ Err (refusal.NoSample 4)
 unfolding be bytes field when signed pair_at group_at offset_at size_at number_at lookup_of
 case-common-past = refl
 
@@ -77,15 +77,15 @@ case-common-past = refl
 abbrev wide : Track
 wide = record {
   stts = record { at = 0; count = 2 };
-  ctts = Absent;
+  ctts = None;
   stsc = record { at = 16; count = 2 };
   stsz = record { at = 40; count = 6; common = 0 };
   stco = record { at = 104; count = 2; wide = true };
-  stss = Absent;
+  stss = None;
 }
 
 -- the second sample ends past 2^64 (9); the third is found all the same
-case-over : lookup_of (samples_of file wide) 2 ≡ found.Refused (refusal 9 0)
+case-over : lookup_of (samples_of file wide) 2 ≡ Err refusal.Overflow
 unfolding be bytes field when signed pair_at group_at offset_at size_at number_at lookup_of
 case-over = refl
 
@@ -94,19 +94,19 @@ unfolding be bytes field when signed pair_at group_at offset_at size_at number_a
 case-after-over = refl
 
 -- stss lists 1 and 4
-case-sync : sync_of (samples_of file track) 4 ≡ synced.Is true
+case-sync : sync_of (samples_of file track) 4 ≡ Ok true
 unfolding be bytes field when signed pair_at group_at offset_at size_at number_at sync_of
 case-sync = refl
 
-case-no-sync : sync_of (samples_of file track) 5 ≡ synced.Is false
+case-no-sync : sync_of (samples_of file track) 5 ≡ Ok false
 unfolding be bytes field when signed pair_at group_at offset_at size_at number_at sync_of
 case-no-sync = refl
 
-case-sync-past : sync_of (samples_of file track) 7 ≡ synced.Refused (refusal 11 7)
+case-sync-past : sync_of (samples_of file track) 7 ≡ Err (refusal.NoSample 7)
 unfolding be bytes field when signed pair_at group_at offset_at size_at number_at sync_of
 case-sync-past = refl
 
-case-sync-zero : sync_of (samples_of file track) 0 ≡ synced.Refused (refusal 11 0)
+case-sync-zero : sync_of (samples_of file track) 0 ≡ Err (refusal.NoSample 0)
 unfolding be bytes field when signed pair_at group_at offset_at size_at number_at sync_of
 case-sync-zero = refl
 

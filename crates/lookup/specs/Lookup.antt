@@ -1,31 +1,30 @@
 -- Whether the sample of a number is sync (ISO/IEC 14496-12, 8.6.2), of any list of samples; and what the private
 -- functions of the lookup promise. The sample itself, the count and the bytes of all are defined in samples. Assumes
 -- nothing.
-use Rattle.std.specs.Prelude.{ℕ, zero, suc, List, [], ◌∷◌, drop}
-use Rattle.numbers.specs.Field.{refusal}
+use Rattle.std.specs.Prelude.{ℕ, zero, suc, List, [], ◌∷◌, Bool, drop, Result, Option, Ok, Err}
+use Rattle.numbers.specs.declared.Refusal.TheVariants as refusal
 use Rattle.signed.specs.Signed.{signed}
 use Rattle.samples.specs.declared.Sample.{Sample}
 use Rattle.tables.specs.Tables.{shifts, syncs}
 use Rattle.tables.specs.Samples.{first_or, sync_at}
-use Rattle.tables.specs.declared.Optional.{Optional}
 use Rattle.tables.specs.declared.Track.{Track}
-use Rattle.lookup.specs.declared.Synced.{Synced}
-use Rattle.lookup.specs.declared.Synced.TheVariants.{Is, Refused}
+use Rattle.tables.specs.declared.Table.{Table}
+use Rattle.numbers.specs.declared.Refusal.{Refusal}
 
 -- the flag of the first of the samples from number k on
-abbrev pub flagged : ℕ → List Sample → Synced
-flagged k [] = Refused (refusal 11 k)
-flagged k (s ∷ l) = Is s.sync
+abbrev pub flagged : ℕ → List Sample → Result Bool Refusal
+flagged k [] = Err (refusal.NoSample k)
+flagged k (s ∷ l) = Ok s.sync
 
 -- the flag of the sample of that number, counted from 1: 11 with the number where there is none (A14)
-unfoldable pub sync_of : List Sample → ℕ → Synced
-sync_of l zero = Refused (refusal 11 0)
+unfoldable pub sync_of : List Sample → ℕ → Result Bool Refusal
+sync_of l zero = Err (refusal.NoSample 0)
 sync_of l (suc n) = flagged (suc n) (drop n l)
 
 -- INSIDE
 
 -- the composition offset of sample k, counted from 0, as 32 bits
-abbrev pub shift_at : List ℕ → Optional → ℕ → ℕ
+abbrev pub shift_at : List ℕ → Option Table → ℕ → ℕ
 shift_at f o k = first_or 0 (drop k (shifts f o))
 
 -- sample k, counted from 0, where its number, place, size, time and duration are known

@@ -1,8 +1,7 @@
-#![tactic(auto)]
+#![tactic(auto, unfolding(numbers::specs::Field::when, numbers::specs::Field::field))]
 // How many samples a track has, the bytes of all, and whether one is sync: from the tables as they lie in the file, entries
 // passed over whole.
 ghost use Rattle.std.specs.Prelude.{◌≡◌, min, length, take};
-ghost use Rattle.numbers.specs.Field.{refusal};
 ghost use Rattle.samples.specs.Lists.{bytes_of};
 ghost use Rattle.tables.specs.Tables.{sum, values_of, pairs, groups, syncs};
 ghost use Rattle.tables.specs.Samples.{sync_at, samples_of};
@@ -10,14 +9,7 @@ ghost use Rattle.lookup.specs.Lookup.{sync_of};
 
 use numbers::Refusal;
 use seek::{Spot, Value};
-use tables::{Optional, Table, Track};
-
-// Whether a sample is sync, or the refusal.
-#[derive(Clone, Copy)]
-pub enum Synced {
-    Is(bool),
-    Refused(Refusal),
-}
+use tables::{Table, Track};
 
 // How many of so many samples have a duration.
 fn timed(file: &[u8], stts: Table, bound: u32) -> u32
@@ -68,10 +60,10 @@ pub fn total(file: &[u8], track: Track) -> u64
 }
 
 // Whether the sample of that number is sync: all are where there is no stss.
-fn flag(file: &[u8], stss: Optional, number: u32) -> bool
+fn flag(file: &[u8], stss: Option<Table>, number: u32) -> bool
     ensures { result ≡ sync_at (syncs file.now stss) number }
 {
-    let Optional::At(t) = stss else {
+    let Some(t) = stss else {
         return true;
     };
     let mut last = 0;
@@ -90,26 +82,16 @@ fn flag(file: &[u8], stss: Optional, number: u32) -> bool
     false
 }
 
-// The refusal of a number that no sample has.
-fn absent(number: u32) -> Refusal
-    ensures { result ≡ refusal 11 number }
-{
-    Refusal {
-        number: 11,
-        detail: number as usize,
-    }
-}
-
 // Whether the sample of that number is sync; 11 where there is none.
-pub fn is_sync(file: &[u8], track: Track, number: u32) -> Synced
+pub fn is_sync(file: &[u8], track: Track, number: u32) -> Result<bool, Refusal>
     ensures { result ≡ sync_of (samples_of file.now track) number }
 {
     if number == 0 {
-        return Synced::Refused(absent(number));
+        return Err(Refusal::NoSample(number as usize));
     }
     if count(file, track) < number {
-        return Synced::Refused(absent(number));
+        return Err(Refusal::NoSample(number as usize));
     }
     let stss = track.stss;
-    Synced::Is(flag(file, stss, number))
+    Ok(flag(file, stss, number))
 }

@@ -1,4 +1,5 @@
 -- mdhd: what is written reads back the same, and a canonical box gives its own bytes. Assumes nothing.
+use Rattle.std.specs.Prelude.{Ok}
 use mathlib.Core.Path.{◌≡◌, refl}
 use mathlib.Core.List.{List, ◌++◌}
 use Prim.Native.Nat.{ℕ, ◌≤◌}
@@ -6,19 +7,17 @@ use native.Mathlib.Omega.{arith}
 use lib.ListN.{length, take, drop}
 use Rattle.numbers.specs.Field.{when}
 use Rattle.put.specs.Put.{wrote}
-use Rattle.put.specs.declared.Put.TheVariants.{Done}
 use Rattle.layout.specs.Rule.{rule_of}
 use Rattle.layout.specs.Canonical.{slots, firsts, Canonical}
 use Rattle.rounds.proofs.Boxes.{plain_back, plain-own}
 use Rattle.mdhd.specs.Mdhd.{kind, fields, from, to, mdhd_of, mdhd_in}
 use Rattle.mdhd.specs.declared.Mdhd.{Mdhd}
-use Rattle.mdhd.specs.declared.Found.TheVariants.{Is, Refused}
 
-pub mdhd-back : (m : Mdhd) (buf : List ℕ) (n : ℕ) (out : List ℕ) → mdhd_in m buf ≡ wrote (Done n) out → mdhd_of (take n out) ≡ Is m
+pub mdhd-back : (m : Mdhd) (buf : List ℕ) (n : ℕ) (out : List ℕ) → mdhd_in m buf ≡ wrote (Ok n) out → mdhd_of (take n out) ≡ Ok m
 unfolding slots firsts rule_of when
-mdhd-back = plain_back Is Refused from to kind fields (omega arith) (λ m. refl)
+mdhd-back = plain_back from to kind fields (omega arith) (λ m. refl)
 
-pub mdhd-own : (b : List ℕ) → Canonical kind fields 0 b → (m : Mdhd) → mdhd_of b ≡ Is m → (buf : List ℕ) → length b ≤ length buf →
-    mdhd_in m buf ≡ wrote (Done (length b)) (b ++ drop (length b) buf)
+pub mdhd-own : (b : List ℕ) → Canonical kind fields 0 b → (m : Mdhd) → mdhd_of b ≡ Ok m → (buf : List ℕ) → length b ≤ length buf →
+    mdhd_in m buf ≡ wrote (Ok (length b)) (b ++ drop (length b) buf)
 unfolding slots firsts rule_of when
-mdhd-own = plain-own Is Refused from to kind fields (λ a b e. cc) (λ v. refl) (omega arith)
+mdhd-own = plain-own from to kind fields (λ v. refl) (omega arith)

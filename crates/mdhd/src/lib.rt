@@ -1,4 +1,4 @@
-#![tactic(auto)]
+#![tactic(auto, unfolding(numbers::specs::Field::when, numbers::specs::Field::field))]
 // The media header (ISO/IEC 14496-12, 8.4.2). Times and duration are wider in version 1; a timescale of 0 is 8.
 ghost use Rattle.std.specs.Prelude.{◌≡◌};
 ghost use Rattle.put.specs.Put.{wrote};
@@ -6,7 +6,6 @@ ghost use Rattle.mdhd.specs.Mdhd.{mdhd_of, mdhd_in};
 
 use layout::Field;
 use numbers::Refusal;
-use put::Put;
 
 #[derive(Clone, Copy)]
 pub struct Mdhd {
@@ -17,12 +16,6 @@ pub struct Mdhd {
     pub timescale: u32,
     pub duration: u64,
     pub language: u16,
-}
-
-#[derive(Clone, Copy)]
-pub enum Found {
-    Is(Mdhd),
-    Refused(Refusal),
 }
 
 pub const KIND: u32 = 0x6d646864;
@@ -38,18 +31,12 @@ pub const ROW: [Field; 8] = [
     Field::Reserved(2, 0),
 ];
 
-pub fn read(part: &[u8]) -> Found
+pub fn read(part: &[u8]) -> Result<Mdhd, Refusal>
     ensures { result ≡ mdhd_of part.now }
 {
-    let got = short::read::by(part, KIND, ROW);
-    if got.number != 0 {
-        return Found::Refused(Refusal {
-            number: got.number,
-            detail: got.place,
-        });
-    }
+    let got = short::read::by(part, KIND, ROW)?;
     let v = got.values;
-    Found::Is(Mdhd {
+    Ok(Mdhd {
         version: v[0] as u8,
         flags: v[1] as u32,
         creation_time: v[2],
@@ -60,7 +47,7 @@ pub fn read(part: &[u8]) -> Found
     })
 }
 
-pub fn write(mdhd: Mdhd, out: &mut [u8]) -> Put
+pub fn write(mdhd: Mdhd, out: &mut [u8]) -> Result<usize, Refusal>
     ensures { wrote result out.new ≡ mdhd_in mdhd out.old }
 {
     let v = [

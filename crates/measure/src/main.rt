@@ -4,11 +4,8 @@
 // is sync. Last it writes a number that all answers go into, so that none of them can be left out.
 ghost use Rattle.std.specs.Prelude.{◌≡◌, ◌≤◌, length};
 
-use lookup::Synced;
-use samples::Listed;
 use std::env::{Env, FillError};
 use std::io::Read;
-use tableboxes::Places;
 use tables::Track;
 
 // The most samples of a track.
@@ -29,8 +26,8 @@ fn mixed(out: &[u64; 458752]) -> u64 {
 
 fn list(file: &[u8], track: Track, out: &mut [u64; 458752]) -> u64 {
     match lists::list(file, track, out) {
-        Listed::Done(n) => n as u64,
-        Listed::Refused(q) => q.number as u64,
+        Ok(n) => n as u64,
+        Err(q) => u64::from(q.code()),
     }
 }
 
@@ -44,7 +41,7 @@ fn negative(c: i64) -> u64 {
 fn look(file: &[u8], track: Track) -> u64 {
     let mut mix: u64 = 0;
     for number in 1..=SAMPLES {
-        let samples::Found::Is(s) = locate::sample(file, track, number) else {
+        let Ok(s) = locate::sample(file, track, number) else {
             return mix;
         };
         mix = plus(mix, s.offset);
@@ -59,7 +56,7 @@ fn look(file: &[u8], track: Track) -> u64 {
 fn sync(file: &[u8], track: Track) -> u64 {
     let mut many: u64 = 0;
     for number in 1..=SAMPLES {
-        let Synced::Is(yes) = lookup::is_sync(file, track, number) else {
+        let Ok(yes) = lookup::is_sync(file, track, number) else {
             return many;
         };
         many = plus(many, marked(number, yes));
@@ -116,11 +113,11 @@ fn rounds<R: Env + Print>(rt: &R, file: &[u8], track: Track) {
 }
 
 fn measure<R: Env + Print>(rt: &R, stbl: &[u8]) {
-    let Places::Are(boxes) = tableboxes::find(stbl) else {
+    let Ok(boxes) = tableboxes::find(stbl) else {
         text(rt, b"no stbl\n");
         return;
     };
-    let stbl::Found::Is(track) = stbl::track(stbl, boxes) else {
+    let Ok(track) = stbl::track(stbl, boxes) else {
         text(rt, b"no track\n");
         return;
     };

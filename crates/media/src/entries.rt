@@ -13,12 +13,6 @@ pub enum Media {
     TTXT,
 }
 
-#[derive(Clone, Copy)]
-pub enum Told {
-    Is(Media),
-    Refused(Refusal),
-}
-
 // 'avc1', 'hev1', 'vp09', 'mp4a' and 'tx3g'.
 const AVC1: u32 = 0x6176_6331;
 
@@ -30,28 +24,25 @@ const MP4A: u32 = 0x6d70_3461;
 
 const TX3G: u32 = 0x7478_3367;
 
-pub fn media_of(entry: u32) -> Told
+pub fn media_of(entry: u32) -> Result<Media, Refusal>
     ensures { result ≡ media_of entry }
 {
     if entry == AVC1 {
-        return Told::Is(Media::H264);
+        return Ok(Media::H264);
     }
     if entry == HEV1 {
-        return Told::Is(Media::H265);
+        return Ok(Media::H265);
     }
     if entry == VP09 {
-        return Told::Is(Media::VP9);
+        return Ok(Media::VP9);
     }
     if entry == MP4A {
-        return Told::Is(Media::AAC);
+        return Ok(Media::AAC);
     }
     if entry == TX3G {
-        return Told::Is(Media::TTXT);
+        return Ok(Media::TTXT);
     }
-    Told::Refused(Refusal {
-        number: 8,
-        detail: 0,
-    })
+    Err(Refusal::Value(0))
 }
 
 pub fn entry_of(media: Media) -> u32

@@ -11,12 +11,6 @@ pub enum Kind {
     Subtitle,
 }
 
-#[derive(Clone, Copy)]
-pub enum Told {
-    Is(Kind),
-    Refused(Refusal),
-}
-
 // 'vide', 'soun' and 'sbtl'.
 const VIDE: u32 = 0x7669_6465;
 
@@ -24,22 +18,19 @@ const SOUN: u32 = 0x736f_756e;
 
 const SBTL: u32 = 0x7362_746c;
 
-pub fn kind_of(letters: u32) -> Told
+pub fn kind_of(letters: u32) -> Result<Kind, Refusal>
     ensures { result ≡ kind_of letters }
 {
     if letters == VIDE {
-        return Told::Is(Kind::Video);
+        return Ok(Kind::Video);
     }
     if letters == SOUN {
-        return Told::Is(Kind::Audio);
+        return Ok(Kind::Audio);
     }
     if letters == SBTL {
-        return Told::Is(Kind::Subtitle);
+        return Ok(Kind::Subtitle);
     }
-    Told::Refused(Refusal {
-        number: 8,
-        detail: 0,
-    })
+    Err(Refusal::Value(0))
 }
 
 pub fn letters_of(kind: Kind) -> u32

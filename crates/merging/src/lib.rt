@@ -1,4 +1,4 @@
-#![tactic(auto)]
+#![tactic(auto, unfolding(numbers::specs::Field::when, numbers::specs::Field::field))]
 // Runs of equal values, merged to the fewest rows. The open run goes in by value with the next value and comes back.
 ghost use Rattle.std.specs.Prelude.{◌≡◌};
 ghost use Rattle.merging.specs.Merging.{fresh, closed_by, step_of, finish_of, open_of};
@@ -25,11 +25,8 @@ fn closed(run: Open, value: u32) -> Step
     ensures { result ≡ closed_by run value }
 {
     Step::Closed {
-        run: run,
-        open: Open {
-            count: 1,
-            value: value,
-        },
+        run,
+        open: Open { count: 1, value },
     }
 }
 
@@ -48,10 +45,7 @@ impl Open {
         let count = self.count;
         let own = self.value;
         if count == 0 {
-            return Step::Longer(Open {
-                count: 1,
-                value: value,
-            });
+            return Step::Longer(Open { count: 1, value });
         }
         if value != own {
             return closed(self, value);
@@ -61,7 +55,7 @@ impl Open {
         }
         Step::Longer(Open {
             count: count + 1,
-            value: value,
+            value,
         })
     }
 

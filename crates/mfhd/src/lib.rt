@@ -1,4 +1,4 @@
-#![tactic(auto)]
+#![tactic(auto, unfolding(numbers::specs::Field::when, numbers::specs::Field::field))]
 // The movie fragment header (ISO/IEC 14496-12, 8.8.5).
 ghost use Rattle.std.specs.Prelude.{◌≡◌};
 ghost use Rattle.put.specs.Put.{wrote};
@@ -6,19 +6,12 @@ ghost use Rattle.mfhd.specs.Mfhd.{mfhd_of, mfhd_in};
 
 use layout::Field;
 use numbers::Refusal;
-use put::Put;
 
 #[derive(Clone, Copy)]
 pub struct Mfhd {
     pub version: u8,
     pub flags: u32,
     pub sequence_number: u32,
-}
-
-#[derive(Clone, Copy)]
-pub enum Found {
-    Is(Mfhd),
-    Refused(Refusal),
 }
 
 pub const KIND: u32 = 0x6d666864;
@@ -34,25 +27,19 @@ pub const ROW: [Field; 8] = [
     Field::Nothing,
 ];
 
-pub fn read(part: &[u8]) -> Found
+pub fn read(part: &[u8]) -> Result<Mfhd, Refusal>
     ensures { result ≡ mfhd_of part.now }
 {
-    let got = short::read::by(part, KIND, ROW);
-    if got.number != 0 {
-        return Found::Refused(Refusal {
-            number: got.number,
-            detail: got.place,
-        });
-    }
+    let got = short::read::by(part, KIND, ROW)?;
     let v = got.values;
-    Found::Is(Mfhd {
+    Ok(Mfhd {
         version: v[0] as u8,
         flags: v[1] as u32,
         sequence_number: v[2] as u32,
     })
 }
 
-pub fn write(mfhd: Mfhd, out: &mut [u8]) -> Put
+pub fn write(mfhd: Mfhd, out: &mut [u8]) -> Result<usize, Refusal>
     ensures { wrote result out.new ≡ mfhd_in mfhd out.old }
 {
     let v = [

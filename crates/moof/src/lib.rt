@@ -1,33 +1,23 @@
-#![tactic(auto)]
+#![tactic(auto, unfolding(numbers::specs::Field::when, numbers::specs::Field::field))]
 // A fragment of a movie (ISO/IEC 14496-12, 8.8.4): boxes, and where its header and the first track's part lie.
 ghost use Rattle.std.specs.Prelude.{◌≡◌};
 ghost use Rattle.moof.specs.Moof.{moof_of};
 
-use children::Place;
 use numbers::Refusal;
 use places::kinds;
-use rows::Judged;
 
 #[derive(Clone, Copy)]
 pub struct Moof {
-    pub mfhd: Place,
-    pub traf: Place,
+    pub mfhd: Option<usize>,
+    pub traf: Option<usize>,
 }
 
-#[derive(Clone, Copy)]
-pub enum Found {
-    Is(Moof),
-    Refused(Refusal),
-}
-
-pub fn read(part: &[u8]) -> Found
+pub fn read(part: &[u8]) -> Result<Moof, Refusal>
     ensures { result ≡ moof_of part.now }
 {
-    match children::whole(part, kinds::MOOF) {
-        Judged::Wrong(q) => Found::Refused(q),
-        Judged::Fine => Found::Is(Moof {
-            mfhd: children::place_of(part, kinds::MOOF, kinds::MFHD),
-            traf: children::place_of(part, kinds::MOOF, kinds::TRAF),
-        }),
-    }
+    children::whole(part, kinds::MOOF)?;
+    Ok(Moof {
+        mfhd: children::place_of(part, kinds::MOOF, kinds::MFHD),
+        traf: children::place_of(part, kinds::MOOF, kinds::TRAF),
+    })
 }

@@ -1,5 +1,6 @@
 -- What a walk over the rows knows, row after row: how many rows there will be, and, where they have room, that the tables
 -- will hold them all. Assumes nothing.
+use Rattle.std.specs.Prelude.{Result, Ok, Err}
 use Prim.Native.Nat.{ℕ, ◌+◌, ◌*◌, ◌-◌, ◌^◌, ◌<◌, ◌≤◌, suc, min}
 use mathlib.Core.Path.{◌≡◌, refl, sym, ap, ap₂, subst, ◌∙◌}
 use mathlib.Core.List.{List, [], ◌∷◌}
@@ -9,24 +10,22 @@ use native.Mathlib.Nat.{add-zero}
 use lib.ListN.{length}
 use lib.Dec.{ltb}
 use lib.Seq.{sets, length-sets}
-use Rattle.numbers.specs.Field.{refusal, when}
+use Rattle.numbers.specs.Field.{when}
+use Rattle.numbers.specs.declared.Refusal.TheVariants as refusal
 use Rattle.numbers.specs.declared.Refusal.{Refusal}
 use Rattle.numbers.proofs.Chain.{is_lt, is_le, not-le}
 use Rattle.kin.specs.Kin.{Boxes}
 use Rattle.put.specs.Put.{wrote}
-use Rattle.put.specs.declared.Put.TheVariants as put
 use Rattle.put.proofs.Stores.{sets-append}
 use Rattle.runs.specs.declared.Run.{Run}
 use Rattle.runtable.specs.Table as runtable
 use Rattle.mooftable.specs.Table as mooftable
 use Rattle.mooftable.specs.declared.Moof.{Moof}
-use Rattle.moofs.specs.Moofs.{Fragment, All, all, refused, fragments_of, all_runs, moofs_from, run_numbers, moof_numbers, output, fill_of}
+use Rattle.moofs.specs.Moofs.{Fragment, All, all, refused, fragments_of, all_runs, moofs_from, run_numbers, moof_numbers, output, fill_of, filled_record}
 use Rattle.moofs.specs.Walk.{Move, still, begins, adds, stop, row, begun, added, move_of, table_of, Turned, turned, turn_of, Plan, plan, none, run_first, moof_first, left_by, left_in, plan_of, tally, Stored}
 use Rattle.moofs.specs.declared.State.{State}
-use Rattle.moofs.specs.declared.Step.TheVariants as step
-use Rattle.moofs.specs.declared.Filled.{Filled}
-use Rattle.moofs.specs.declared.Filled.TheVariants.{Are, Refused}
 use Rattle.moofs.proofs.Left.{all_left}
+use Rattle.moofs.specs.declared.Filled.{Filled}
 
 -- ONE ROW MORE
 
@@ -35,7 +34,7 @@ module _ (x : Run) (i : ℕ) (r : List ℕ) where
   unfolding when
   run_length = by (ltb i (runtable.holds r)) (ltb (i + 1) (2 ^ 64))
     where
-      by : (a b : Bool) → length (table_of (when a (wrote (put.Done (i + 1)) (sets r (i * 12) (runtable.numbers_of x))) (when b (wrote (put.Refused (refusal 12 (i + 1))) r) (wrote (put.Refused (refusal 9 0)) r)))) ≡ length r
+      by : (a b : Bool) → length (table_of (when a (wrote (Ok (i + 1)) (sets r (i * 12) (runtable.numbers_of x))) (when b (wrote (Err (refusal.TooSmall (i + 1))) r) (wrote (Err refusal.Overflow) r)))) ≡ length r
       by true b = length-sets r (i * 12) (runtable.numbers_of x)
       by false true = refl
       by false false = refl
@@ -55,7 +54,7 @@ module _ (x : Moof) (i : ℕ) (m : List ℕ) where
   unfolding when
   moof-length = by (ltb i (mooftable.holds m)) (ltb (i + 1) (2 ^ 64))
     where
-      by : (a b : Bool) → length (table_of (when a (wrote (put.Done (i + 1)) (sets m (i * 3) (mooftable.numbers_of x))) (when b (wrote (put.Refused (refusal 12 (i + 1))) m) (wrote (put.Refused (refusal 9 0)) m)))) ≡ length m
+      by : (a b : Bool) → length (table_of (when a (wrote (Ok (i + 1)) (sets m (i * 3) (mooftable.numbers_of x))) (when b (wrote (Err (refusal.TooSmall (i + 1))) m) (wrote (Err refusal.Overflow) m)))) ≡ length m
       by true b = length-sets m (i * 3) (mooftable.numbers_of x)
       by false true = refl
       by false false = refl
@@ -71,15 +70,15 @@ module _ (x : Moof) (i : ℕ) (m : List ℕ) where
       ∙ sets-append m (i * 3) (mooftable.numbers_of x) (moof_numbers ms)
 
 tally-run : (x : Run) (i k : ℕ) (p : Plan) → tally (i + 1) k p ≡ tally i k (run_first x p)
-tally-run x i k (plan rs ms) = let e : i + 1 + length rs ≡ i + suc (length rs) = omega arith in ap (λ (a : ℕ). Are a (k + length ms)) e
+tally-run x i k (plan rs ms) = let e : i + 1 + length rs ≡ i + suc (length rs) = omega arith in ap (λ (a : ℕ). Ok (filled_record a (k + length ms))) e
 tally-run x i k (none q) = refl
 
 tally-moof : (x : Moof) (i k : ℕ) (p : Plan) → tally i (k + 1) p ≡ tally i k (moof_first x p)
-tally-moof x i k (plan rs ms) = let e : k + 1 + length ms ≡ k + suc (length ms) = omega arith in ap (λ (a : ℕ). Are (i + length rs) a) e
+tally-moof x i k (plan rs ms) = let e : k + 1 + length ms ≡ k + suc (length ms) = omega arith in ap (λ (a : ℕ). Ok (filled_record (i + length rs) a)) e
 tally-moof x i k (none q) = refl
 
-pub are-same : (a b c d : ℕ) → Are a b ≡ Are c d → (a ≡ c) × (b ≡ d)
-are-same a b c d e = (cc, cc)
+pub are-same : (f g : Filled) → ◌≡◌ {A = Result Filled Refusal} (Ok f) (Ok g) → f ≡ g
+are-same f g e = cc e
 
 -- THE WALK
 
@@ -103,8 +102,8 @@ pub record Filling (whole left : Plan) (σ : State) (j : ℕ) (ro r mo m : List 
 
 -- after a row: the walk goes on with what is left, or it is refused
 abbrev After : Plan → (State → Plan) → ℕ → List ℕ → List ℕ → Turned → Type 0
-After whole go j ro mo (turned (step.On o) r m) = Filling whole (go o) o (j + 1) ro r mo m
-After whole go j ro mo (turned (step.Refused q) r m) = (Refused q ≡ tally 0 0 whole) × (length r ≡ length ro) × (length m ≡ length mo)
+After whole go j ro mo (turned (Ok o) r m) = Filling whole (go o) o (j + 1) ro r mo m
+After whole go j ro mo (turned (Err q) r m) = (Err q ≡ tally 0 0 whole) × (length r ≡ length ro) × (length m ≡ length mo)
 
 after : (whole : Plan) (go : State → Plan) (σ : State) (j : ℕ) (ro r mo m : List ℕ) (mv : Move) → Filling whole (left_by σ mv go) σ j ro r mo m → After whole go j ro mo (turn_of σ mv r m)
 after whole go σ j ro r mo m still w =
@@ -173,21 +172,21 @@ module _ (s : List ℕ) (t : Boxes) (n end : ℕ) (whole : Plan) (ro mo : List �
         subst (After whole (left_in s t n (end - (j + 1)) (j + 1)) j ro mo) (sym e)
         (after whole (left_in s t n (end - (j + 1)) (j + 1)) σ j ro r mo m (move_of s t n j σ) (opened h))
 
-    pub goes_on : (o : State) (x y : List ℕ) (a : _) → j < end → turned a x y ≡ turn_of σ (move_of s t n j σ) r m → a ≡ step.On o
+    pub goes_on : (o : State) (x y : List ℕ) (a : _) → j < end → turned a x y ≡ turn_of σ (move_of s t n j σ) r m → a ≡ Ok o
         → Filling whole (left_in s t n (end - (j + 1)) (j + 1) o) o (j + 1) ro x mo y
-    goes_on o x y a h e g = turns h (turned (step.On o) x y) (ap (λ a. turned a x y) (sym g) ∙ e)
+    goes_on o x y a h e g = turns h (turned (Ok o) x y) (ap (λ a. turned a x y) (sym g) ∙ e)
 
-    pub is-refused : (q : Refusal) (x y : List ℕ) (a : _) → j < end → turned a x y ≡ turn_of σ (move_of s t n j σ) r m → a ≡ step.Refused q
-        → (Refused q ≡ tally 0 0 whole) × (length x ≡ length ro) × (length y ≡ length mo)
-    is-refused q x y a h e g = turns h (turned (step.Refused q) x y) (ap (λ a. turned a x y) (sym g) ∙ e)
+    pub is-refused : (q : Refusal) (x y : List ℕ) (a : _) → j < end → turned a x y ≡ turn_of σ (move_of s t n j σ) r m → a ≡ Err q
+        → (Err q ≡ tally 0 0 whole) × (length x ≡ length ro) × (length y ≡ length mo)
+    is-refused q x y a h e g = turns h (turned (Err q) x y) (ap (λ a. turned a x y) (sym g) ∙ e)
 
     ends-left : end ≤ j → left_in s t n (end - j) j σ ≡ plan [] []
     unfolding left_in
     ends-left h = let z : end - j ≡ 0 = omega arith in ap (λ (k : ℕ). left_in s t n k j σ) z
 
-    pub counts : end ≤ j → Are σ.runs σ.moofs ≡ tally 0 0 whole
+    pub counts : end ≤ j → Ok (filled_record σ.runs σ.moofs) ≡ tally 0 0 whole
     counts h =
-        sym (ap₂ (λ (i k : ℕ). Are i k) (add-zero σ.runs) (add-zero σ.moofs)) ∙ sym (ap (tally σ.runs σ.moofs) (ends-left h)) ∙ w.told
+        sym (ap₂ (λ (i k : ℕ). Ok (filled_record i k)) (add-zero σ.runs) (add-zero σ.moofs)) ∙ sym (ap (tally σ.runs σ.moofs) (ends-left h)) ∙ w.told
 
     pub stores : end ≤ j → Stored whole ro r mo m
     stores h rs ms e = (
@@ -195,20 +194,20 @@ module _ (s : List ℕ) (t : Boxes) (n end : ℕ) (whole : Plan) (ro mo : List �
       λ room. w.moof-rows [] [] (ends-left h) (omega (arith, room, few)) ∙ ap (λ (p : Plan). sets mo 0 (moof_numbers (moofs_of p))) e,
     )
       where
-        same : Are σ.runs σ.moofs ≡ Are (0 + length rs) (0 + length ms)
-        same = counts h ∙ ap (tally 0 0) e
+        same : filled_record σ.runs σ.moofs ≡ filled_record (0 + length rs) (0 + length ms)
+        same = are-same _ _ (counts h ∙ ap (tally 0 0) e)
 
         many : σ.runs ≡ length rs
-        many = omega (arith, (are-same _ _ _ _ same).0)
+        many = omega (arith, ap (λ (f : Filled). f.runs) same)
 
         few : σ.moofs ≡ length ms
-        few = omega (arith, (are-same _ _ _ _ same).1)
+        few = omega (arith, ap (λ (f : Filled). f.moofs) same)
 
 -- a walk that is refused stores nothing that counts
-pub stores-none : (q : Refusal) (whole : Plan) (ro r mo m : List ℕ) → Refused q ≡ tally 0 0 whole → Stored whole ro r mo m
+pub stores-none : (q : Refusal) (whole : Plan) (ro r mo m : List ℕ) → Err q ≡ tally 0 0 whole → Stored whole ro r mo m
 stores-none q whole ro r mo m h rs ms e =
-    let z : Refused q ≡ Are (0 + length rs) (0 + length ms) = h ∙ ap (tally 0 0) e in
-    let y : ◌≡◌ {A = ℕ} 0 1 = cc in
+    let z : ◌≡◌ {A = Result Filled Refusal} (Err q) (Ok (filled_record (0 + length rs) (0 + length ms))) = h ∙ ap (tally 0 0) e in
+    let y : ◌≡◌ {A = ℕ} 0 1 = cc z in
     absurd (omega arith)
 
 -- THE TABLES
@@ -218,50 +217,52 @@ length-moofs i [] = refl
 length-moofs i (f ∷ fs) = ap suc (length-moofs (i + length f.runs) fs)
 
 module _ (r m : List ℕ) where
-  pub fill-refused : (fs : All Fragment) (q : Refusal) (a : Filled) → a ≡ tally 0 0 (plan_of fs) → a ≡ Refused q → output (Refused q) r m ≡ fill_of fs r m
+  pub fill-refused : (fs : All Fragment) (q : Refusal) (a : Result Filled Refusal) → a ≡ tally 0 0 (plan_of fs) → a ≡ Err q → output (Err q) r m ≡ fill_of fs r m
   unfolding plan_of
   fill-refused (all fs) q a e g =
-      let z : Refused q ≡ Are (0 + length (all_runs fs)) (0 + length (moofs_from 0 fs)) = sym g ∙ e in
-      let y : ◌≡◌ {A = ℕ} 0 1 = cc in
+      let z : ◌≡◌ {A = Result Filled Refusal} (Err q) (Ok (filled_record (0 + length (all_runs fs)) (0 + length (moofs_from 0 fs)))) = sym g ∙ e in
+      let y : ◌≡◌ {A = ℕ} 0 1 = cc z in
       absurd (omega arith)
-  fill-refused (refused p) q a e g = ap (λ (a : Filled). output a r m) (sym g ∙ e)
+  fill-refused (refused p) q a e g = ap (λ (a : Result Filled Refusal). output a r m) (sym g ∙ e)
 
   -- how many there are
-  module _ (i k : ℕ) where
-    told-all : (fs : List Fragment) (a : Filled) → a ≡ tally 0 0 (plan_of (all fs)) → a ≡ Are i k → (i ≡ length (all_runs fs)) × (k ≡ length fs)
+  module _ (f : Filled) where
+    told-all : (fs : List Fragment) (a : Result Filled Refusal) → a ≡ tally 0 0 (plan_of (all fs)) → a ≡ Ok f → (f.runs ≡ length (all_runs fs)) × (f.moofs ≡ length fs)
     unfolding plan_of
-    told-all fs a e g = (omega (arith, (are-same _ _ _ _ (sym g ∙ e)).0), omega (arith, (are-same _ _ _ _ (sym g ∙ e)).1, length-moofs 0 fs))
+    told-all fs a e g =
+        let z : f ≡ filled_record (0 + length (all_runs fs)) (0 + length (moofs_from 0 fs)) = are-same _ _ (sym g ∙ e) in
+        (omega (arith, ap (λ (f : Filled). f.runs) z), omega (arith, ap (λ (f : Filled). f.moofs) z, length-moofs 0 fs))
 
-    told_none : {A : Type 0} (p : Refusal) (a : Filled) → a ≡ tally 0 0 (plan_of (refused p)) → a ≡ Are i k → A
+    told_none : {A : Type 0} (p : Refusal) (a : Result Filled Refusal) → a ≡ tally 0 0 (plan_of (refused p)) → a ≡ Ok f → A
     unfolding plan_of
     told_none p a e g =
-        let z : Are i k ≡ Refused p = sym g ∙ e in
-        let y : ◌≡◌ {A = ℕ} 0 1 = cc in
+        let z : ◌≡◌ {A = Result Filled Refusal} (Ok f) (Err p) = sym g ∙ e in
+        let y : ◌≡◌ {A = ℕ} 0 1 = cc z in
         absurd (omega arith)
 
-    pub small-runs : (fs : All Fragment) (a z : Filled) → a ≡ tally 0 0 (plan_of fs) → a ≡ Are i k → runtable.holds r < i → z ≡ Refused (refusal 12 i) → output z r m ≡ fill_of fs r m
-    small-runs (all fs) a z e g h w =
+    pub small-runs : (fs : All Fragment) (a : Result Filled Refusal) → a ≡ tally 0 0 (plan_of fs) → a ≡ Ok f → runtable.holds r < f.runs → output (Err (refusal.TooSmall f.runs)) r m ≡ fill_of fs r m
+    small-runs (all fs) a e g h =
         let n = told-all fs a e g in
-        not-le _ _ _ (length (all_runs fs)) (runtable.holds r) (omega (arith, h, n.0))
-        (ap (λ (z : Filled). output z r m) w ∙ ap (λ (i : ℕ). output (Refused (refusal 12 i)) r m) n.0)
-    small-runs (refused p) a z e g h w = told_none p a e g
+        not-le _ _ _ (length (all_runs fs)) (runtable.holds r) (omega (arith, h, n.0)) (ap (λ (i : ℕ). output (Err (refusal.TooSmall i)) r m) n.0)
+    small-runs (refused p) a e g h = told_none p a e g
 
-    pub small-moofs : (fs : All Fragment) (a z : Filled) → a ≡ tally 0 0 (plan_of fs) → a ≡ Are i k → i ≤ runtable.holds r → mooftable.holds m < k → z ≡ Refused (refusal 12 k) → output z r m ≡ fill_of fs r m
-    small-moofs (all fs) a z e g h l w =
+    pub small-moofs : (fs : All Fragment) (a : Result Filled Refusal) → a ≡ tally 0 0 (plan_of fs) → a ≡ Ok f → f.runs ≤ runtable.holds r → mooftable.holds m < f.moofs → output (Err (refusal.TooSmall f.moofs)) r m ≡ fill_of fs r m
+    small-moofs (all fs) a e g h l =
         let n = told-all fs a e g in
         is_le _ _ _ (length (all_runs fs)) (runtable.holds r) (omega (arith, h, n.0))
-        (not-le _ _ _ (length fs) (mooftable.holds m) (omega (arith, l, n.1))
-        (ap (λ (z : Filled). output z r m) w ∙ ap (λ (i : ℕ). output (Refused (refusal 12 i)) r m) n.1))
-    small-moofs (refused p) a z e g h l w = told_none p a e g
+        (not-le _ _ _ (length fs) (mooftable.holds m) (omega (arith, l, n.1)) (ap (λ (i : ℕ). output (Err (refusal.TooSmall i)) r m) n.1))
+    small-moofs (refused p) a e g h l = told_none p a e g
 
-    pub fills : (fs : All Fragment) (a : Filled) (x y : List ℕ) → a ≡ tally 0 0 (plan_of fs) → a ≡ Are i k → i ≤ runtable.holds r → k ≤ mooftable.holds m
-        → Stored (plan_of fs) r x m y → output (Are i k) x y ≡ fill_of fs r m
+    pub fills : (fs : All Fragment) (a z : Result Filled Refusal) (x y : List ℕ) → a ≡ tally 0 0 (plan_of fs) → a ≡ Ok f → f.runs ≤ runtable.holds r → f.moofs ≤ mooftable.holds m
+        → z ≡ tally 0 0 (plan_of fs) → Stored (plan_of fs) r x m y → output z x y ≡ fill_of fs r m
     unfolding plan_of
-    fills (all fs) a x y e g h l w =
+    fills (all fs) a z x y e g h l o w =
         let n = told-all fs a e g in
         let p = w (all_runs fs) (moofs_from 0 fs) refl in
+        let i : 0 + length (all_runs fs) ≡ length (all_runs fs) = omega arith in
+        let k : 0 + length (moofs_from 0 fs) ≡ length fs = omega (arith, length-moofs 0 fs) in
         is_le _ _ _ (length (all_runs fs)) (runtable.holds r) (omega (arith, h, n.0))
         (is_le _ _ _ (length fs) (mooftable.holds m) (omega (arith, l, n.1))
-        (ap₂ (λ (i k : ℕ). output (Are i k) x y) n.0 n.1
-        ∙ ap₂ (λ (x y : List ℕ). output (Are (length (all_runs fs)) (length fs)) x y) (p.0 (omega (arith, h, n.0))) (p.1 (omega (arith, l, n.1, length-moofs 0 fs)))))
-    fills (refused p) a x y e g h l w = told_none p a e g
+        (ap (λ (z : Result Filled Refusal). output z x y) o ∙ ap₂ (λ (i k : ℕ). output (Ok (filled_record i k)) x y) i k
+        ∙ ap₂ (λ (x y : List ℕ). output (Ok (filled_record (length (all_runs fs)) (length fs))) x y) (p.0 (omega (arith, h, n.0))) (p.1 (omega (arith, l, n.1, length-moofs 0 fs)))))
+    fills (refused p) a z x y e g h l o w = told_none p a e g

@@ -1,5 +1,6 @@
 -- What a walk has left to store is what the definition says: of the moof that it is in, the runs that are left, and then
 -- the fragments behind it. Assumes nothing.
+use Rattle.std.specs.Prelude.{Result, Option, Ok, Err, Some, None}
 use Prim.Native.Nat.{ℕ, zero, suc, ◌+◌}
 use mathlib.Core.Path.{◌≡◌, refl, sym, ap, ◌∙◌}
 use mathlib.Core.List.{List, [], ◌∷◌, ◌++◌}
@@ -7,23 +8,20 @@ use mathlib.Core.Bool.{Bool, true, false}
 use native.Mathlib.Omega.{arith}
 use native.Mathlib.Nat.{add-zero}
 use lib.ListN.{length}
-use Rattle.numbers.specs.Field.{refusal, when}
+use Rattle.numbers.specs.Field.{when}
+use Rattle.numbers.specs.declared.Refusal.TheVariants as refusal
 use Rattle.places.specs.Kinds.{moof, traf, mfhd}
 use Rattle.kin.specs.Kin.{Boxes, at, stands}
 use Rattle.inside.specs.Inside.{child}
 use Rattle.mfhd.specs.Mfhd.{mfhd_of}
-use Rattle.mfhd.specs.declared.Found as mfhd-found
-use Rattle.mfhd.specs.declared.Found.TheVariants as mfhd-is
 use Rattle.runs.specs.Samples.{end_of}
 use Rattle.runs.specs.declared.Run.{Run}
-use Rattle.runstarts.specs.declared.Made.{Made}
-use Rattle.runstarts.specs.declared.Made.TheVariants as made
-use Rattle.runs.specs.declared.DataEnd.{DataEnd}
-use Rattle.runs.specs.declared.DataEnd.TheVariants as end
 use Rattle.trafs.specs.Trafs.{bytes_of, run_of}
 use Rattle.moofs.specs.Moofs.{Fragment, fragment, All, all, refused, before, with_end, with_run, runs_in, with_number, with_runs, fragments_in, all_runs, moofs_from}
 use Rattle.moofs.specs.Walk.{Move, still, begins, stop, row, begun, added, begin_of, add_to, add_by, add_of, move_of, Plan, plan, none, run_first, moof_first, left_by, left_in, plan_of}
 use Rattle.moofs.specs.declared.State.{State}
+use Rattle.numbers.specs.declared.Refusal.{Refusal}
+use Rattle.mfhd.specs.declared.Mfhd.{Mfhd}
 
 -- the runs that are left of a moof, and the fragments behind it, after i runs
 abbrev joined : ℕ → All Run → All Fragment → Plan
@@ -53,29 +51,29 @@ module _ (s : List ℕ) (t : Boxes) (n : ℕ) where
   Inside k j = (σ : State) → σ.inside ≡ true → left_in s t n k j σ ≡ joined σ.runs (runs_left k j σ) (fragments_in s t n k j)
 
   -- what a moof in row j gives, by its mfhd
-  abbrev opened : ℕ → ℕ → mfhd-found.Found → All Fragment
+  abbrev opened : ℕ → ℕ → Result Mfhd Refusal → All Fragment
   opened k j f =
-      with_number f (refused (refusal 8 (at t.starts j)))
+      with_number f (refused (refusal.Value (at t.starts j)))
       (λ number. with_runs (runs_in s t n (at t.starts j) k (j + 1) true (at t.starts j))
       (λ rs. before (fragment (at t.starts j) number rs) (fragments_in s t n k (j + 1))))
 
-  by-moof : (k j : ℕ) (σ : State) (f : mfhd-found.Found) → Inside k (j + 1)
-      → left_by σ (with_number f (stop (refusal 8 (at t.starts j))) (begins (at t.starts j))) (left_in s t n k (j + 1)) ≡ joined σ.runs (all []) (opened k j f)
-  by-moof k j σ (mfhd-is.Is h) ih =
+  by-moof : (k j : ℕ) (σ : State) (f : Result Mfhd Refusal) → Inside k (j + 1)
+      → left_by σ (with_number f (stop (refusal.Value (at t.starts j))) (begins (at t.starts j))) (left_in s t n k (j + 1)) ≡ joined σ.runs (all []) (opened k j f)
+  by-moof k j σ (Ok h) ih =
       ap (moof_first (row (at t.starts j) h.sequence_number σ.runs)) (ih (begun (at t.starts j) σ) refl)
       ∙ joined-moof (at t.starts j) h.sequence_number σ.runs (runs_in s t n (at t.starts j) k (j + 1) true (at t.starts j)) (fragments_in s t n k (j + 1))
-  by-moof k j σ (mfhd-is.Refused q) ih = refl
+  by-moof k j σ (Err q) ih = refl
 
-  by_end : (k j : ℕ) (σ : State) (r : Run) (y : DataEnd) → Inside k (j + 1)
+  by_end : (k j : ℕ) (σ : State) (r : Run) (y : Option ℕ) → Inside k (j + 1)
       → left_by σ (add_to r y) (left_in s t n k (j + 1)) ≡ joined σ.runs (with_end r y (λ e. runs_in s t n σ.start k (j + 1) false e)) (fragments_in s t n k (j + 1))
-  by_end k j σ r (end.At e) ih =
+  by_end k j σ r (Some e) ih =
       ap (run_first r) (ih (added e σ) refl) ∙ joined-run r σ.runs (runs_in s t n σ.start k (j + 1) false e) (fragments_in s t n k (j + 1))
-  by_end k j σ r end.Over ih = refl
+  by_end k j σ r None ih = refl
 
-  by-run : (k j : ℕ) (σ : State) (d : Made) → Inside k (j + 1)
+  by-run : (k j : ℕ) (σ : State) (d : Result Run Refusal) → Inside k (j + 1)
       → left_by σ (add_by s d) (left_in s t n k (j + 1)) ≡ joined σ.runs (with_run s d (λ e. runs_in s t n σ.start k (j + 1) false e)) (fragments_in s t n k (j + 1))
-  by-run k j σ (made.Is r) ih = by_end k j σ r (end_of s r) ih
-  by-run k j σ (made.Refused q) ih = refl
+  by-run k j σ (Ok r) ih = by_end k j σ r (end_of s r) ih
+  by-run k j σ (Err q) ih = refl
 
   by_tests : (i : ℕ) (b c : Bool) (σ : State) (mm mr : Move) (go : State → Plan) (rr ro : All Run) (fm fo : All Fragment)
       → left_by σ mm go ≡ joined i (all []) fm → left_by σ mr go ≡ joined i rr fo → go σ ≡ joined i ro fo

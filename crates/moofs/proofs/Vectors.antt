@@ -1,10 +1,12 @@
 -- Worked examples of the definitions, computed. Assumes nothing.
+use Rattle.std.specs.Prelude.{Ok, Err}
 use Prim.Native.Nat.{ℕ}
 use mathlib.Core.Path.{◌≡◌, refl}
 use mathlib.Core.List.{List, [], ◌∷◌, ◌++◌}
 use lib.ListN.{replicate}
 use Rattle.numbers.specs.Number.{be, bytes}
-use Rattle.numbers.specs.Field.{refusal, field, when}
+use Rattle.numbers.specs.Field.{field, when}
+use Rattle.numbers.specs.declared.Refusal.TheVariants as refusal
 use Rattle.signed.specs.Signed.{signed}
 use Rattle.layout.specs.Rule.{rule_of}
 use Rattle.layout.specs.Read.{one, decode}
@@ -21,10 +23,8 @@ use Rattle.runs.specs.Samples.{bytes_in}
 use Rattle.runs.specs.declared.Run.{Run}
 use Rattle.runtable.specs.Table as runtable
 use Rattle.trafs.specs.Trafs.{run_of}
-use Rattle.moofs.specs.Moofs.{Fragment, fragment, all, refused, runs_in, fragments_in, fragments_of, moofs_from, output, fill_of}
+use Rattle.moofs.specs.Moofs.{Fragment, fragment, all, refused, runs_in, fragments_in, fragments_of, moofs_from, output, fill_of, filled_record}
 use Rattle.moofs.specs.Walk.{still, begins, begun, begin_of, add_of, move_of, turned, turn_of, left_in, plan_of, tally}
-use Rattle.moofs.specs.declared.Step.TheVariants as step
-use Rattle.moofs.specs.declared.Filled.TheVariants.{Are, Refused}
 use Rattle.moofs.proofs.Few.{fresh}
 
 -- a trex, a tfhd with these flags and bytes after its track, a tfdt, a trun of three samples and an mfhd of number 5: the
@@ -64,18 +64,18 @@ unplaced : fragments_of (file 0 []) (tables (1 ∷ 0 ∷ replicate 11 1)) 13 ≡
 unfolding be bytes field when signed rule_of one decode cut_of keys pick_key first trex_of next_in child run_of size_at bytes_in runs_in fragments_in
 unplaced = refl
 
--- a traf that does not stand in its place is not the traf before: 8 at the other, whose tfhd is missing too
-no-tfhd : fragments_of (file 0 []) (tables (1 ∷ 1 ∷ 1 ∷ 0 ∷ 1 ∷ 1 ∷ 1 ∷ 1 ∷ 0 ∷ replicate 4 1)) 13 ≡ refused (refusal 8 1100)
+-- a traf that does not stand in its place is not the traf before: the other is refused, whose tfhd is missing too
+no-tfhd : fragments_of (file 0 []) (tables (1 ∷ 1 ∷ 1 ∷ 0 ∷ 1 ∷ 1 ∷ 1 ∷ 1 ∷ 0 ∷ replicate 4 1)) 13 ≡ refused (refusal.Value 1100)
 unfolding be bytes field when signed rule_of one decode cut_of keys pick_key first trex_of next_in child run_of size_at bytes_in runs_in fragments_in
 no-tfhd = refl
 
 -- the first refusal counts: a moof's own, and then its trafs'
-no-mfhd : fragments_of (file 0 []) (tables (1 ∷ 1 ∷ 0 ∷ 1 ∷ 0 ∷ replicate 8 1)) 13 ≡ refused (refusal 8 1000)
+no-mfhd : fragments_of (file 0 []) (tables (1 ∷ 1 ∷ 0 ∷ 1 ∷ 0 ∷ replicate 8 1)) 13 ≡ refused (refusal.Value 1000)
 unfolding be bytes field when signed rule_of one decode cut_of keys pick_key first trex_of next_in child run_of size_at bytes_in runs_in fragments_in
 no-mfhd = refl
 
 -- data that begin at 2^64 - 100 and are 150 bytes
-past_the_end : fragments_of (file 1 (bytes 8 18446744073709551316)) (tables (replicate 13 1)) 13 ≡ refused (refusal 9 0)
+past_the_end : fragments_of (file 1 (bytes 8 18446744073709551316)) (tables (replicate 13 1)) 13 ≡ refused refusal.Overflow
 unfolding be bytes field when signed rule_of one decode cut_of keys pick_key first trex_of next_in child run_of size_at bytes_in runs_in fragments_in
 past_the_end = refl
 
@@ -86,24 +86,24 @@ rows : moofs_from 0 two ≡ record { start = 1000; number = 5; runs = 0 } ∷ re
 rows = refl
 
 filled : fill_of (all two) (replicate 25 9) (replicate 7 9)
-    ≡ output (Are 2 2) (runtable.numbers_of (run 1200) ++ runtable.numbers_of (run 1550) ++ (9 ∷ [])) (1000 ∷ 5 ∷ 0 ∷ 2000 ∷ 5 ∷ 2 ∷ 9 ∷ [])
+    ≡ output (Ok (filled_record 2 2)) (runtable.numbers_of (run 1200) ++ runtable.numbers_of (run 1550) ++ (9 ∷ [])) (1000 ∷ 5 ∷ 0 ∷ 2000 ∷ 5 ∷ 2 ∷ 9 ∷ [])
 unfolding when
 filled = refl
 
 -- no room for the second run, and none for the second moof: the tables stay
-few-runs : fill_of (all two) (replicate 23 9) (replicate 5 9) ≡ output (Refused (refusal 12 2)) (replicate 23 9) (replicate 5 9)
+few-runs : fill_of (all two) (replicate 23 9) (replicate 5 9) ≡ output (Err (refusal.TooSmall 2)) (replicate 23 9) (replicate 5 9)
 unfolding when
 few-runs = refl
 
-few-moofs : fill_of (all (fragment 8 1 [] ∷ two)) (replicate 24 9) (replicate 8 9) ≡ output (Refused (refusal 12 3)) (replicate 24 9) (replicate 8 9)
+few-moofs : fill_of (all (fragment 8 1 [] ∷ two)) (replicate 24 9) (replicate 8 9) ≡ output (Err (refusal.TooSmall 3)) (replicate 24 9) (replicate 8 9)
 unfolding when
 few-moofs = refl
 
-kept : fill_of (refused (refusal 9 0)) [] (1 ∷ []) ≡ output (Refused (refusal 9 0)) [] (1 ∷ [])
+kept : fill_of (refused refusal.Overflow) [] (1 ∷ []) ≡ output (Err refusal.Overflow) [] (1 ∷ [])
 kept = refl
 
 -- a file without moofs fills nothing
-none : fill_of (all []) [] (1 ∷ []) ≡ output (Are 0 0) [] (1 ∷ [])
+none : fill_of (all []) [] (1 ∷ []) ≡ output (Ok (filled_record 0 0)) [] (1 ∷ [])
 unfolding when
 none = refl
 
@@ -114,7 +114,7 @@ walked : left_in (file 0 []) (tables (replicate 13 1)) 13 13 0 fresh ≡ plan_of
 unfolding be bytes field when signed rule_of one decode cut_of keys pick_key first trex_of next_in child run_of size_at bytes_in begin_of add_of move_of left_in plan_of
 walked = refl
 
-counted : tally 0 0 (plan_of (all two)) ≡ Are 2 2
+counted : tally 0 0 (plan_of (all two)) ≡ Ok (filled_record 2 2)
 unfolding plan_of
 counted = refl
 
@@ -123,6 +123,6 @@ outside : move_of (file 0 []) (tables (replicate 13 1)) 13 3 fresh ≡ still
 unfolding when move_of
 outside = refl
 
-no_row : turn_of fresh (begins 1000 5) [] (7 ∷ []) ≡ turned (step.On (begun 1000 fresh)) [] (7 ∷ [])
+no_row : turn_of fresh (begins 1000 5) [] (7 ∷ []) ≡ turned (Ok (begun 1000 fresh)) [] (7 ∷ [])
 unfolding when
 no_row = refl

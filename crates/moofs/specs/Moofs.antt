@@ -1,29 +1,24 @@
 -- The fragments of a file (ISO/IEC 14496-12, 8.8.4 to 8.8.8), by the boxes that are recorded in the tables, in the order of
 -- the file: a moof's first byte, its sequence number, and the run of each of its trafs. A box counts where it stands in
 -- its place (A2); so the trafs of a moof are those in the rows from it up to the next moof. Assumes nothing.
-use Rattle.std.specs.Prelude.{ℕ, zero, suc, ◌+◌, min, List, [], ◌∷◌, ◌++◌, Bool, true, false, length, leb}
+use Rattle.std.specs.Prelude.{ℕ, zero, suc, ◌+◌, min, List, [], ◌∷◌, ◌++◌, Bool, true, false, length, leb, Result, Option, Ok, Err, Some, None}
 use Rattle.std.proofs.lemmas.List.Edits.{sets}
-use Rattle.numbers.specs.Field.{refusal, when}
+use Rattle.numbers.specs.Field.{when}
+use Rattle.numbers.specs.declared.Refusal.TheVariants as refusal
 use Rattle.numbers.specs.declared.Refusal.{Refusal}
 use Rattle.places.specs.Kinds.{moof, traf, mfhd}
 use Rattle.places.specs.Visit.{box_limit}
 use Rattle.kin.specs.Kin.{Boxes, at, stands}
 use Rattle.inside.specs.Inside.{child}
 use Rattle.mfhd.specs.Mfhd.{mfhd_of}
-use Rattle.mfhd.specs.declared.Found as mfhd-found
-use Rattle.mfhd.specs.declared.Found.TheVariants as mfhd-is
 use Rattle.runs.specs.Samples.{end_of}
 use Rattle.runs.specs.declared.Run.{Run}
-use Rattle.runstarts.specs.declared.Made.{Made}
-use Rattle.runstarts.specs.declared.Made.TheVariants as made
-use Rattle.runs.specs.declared.DataEnd.{DataEnd}
-use Rattle.runs.specs.declared.DataEnd.TheVariants as end
 use Rattle.trafs.specs.Trafs.{bytes_of, run_of}
 use Rattle.runtable.specs.Table as runtable
 use Rattle.mooftable.specs.Table as mooftable
 use Rattle.mooftable.specs.declared.Moof.{Moof}
 use Rattle.moofs.specs.declared.Filled.{Filled}
-use Rattle.moofs.specs.declared.Filled.TheVariants.{Are, Refused}
+use Rattle.mfhd.specs.declared.Mfhd.{Mfhd}
 
 pub record Fragment : Type 0 where
   pub start : ℕ
@@ -45,14 +40,14 @@ before x (refused q) = refused q
 
 -- THE RUNS OF A MOOF
 
--- a run, and the runs behind it by the end of its data; 9 where that passes 2^64 - 1
-abbrev pub with_end : Run → DataEnd → (ℕ → All Run) → All Run
-with_end r (end.At e) go = before r (go e)
-with_end r end.Over go = refused (refusal 9 0)
+-- a run, and the runs behind it by the end of its data, which must not pass 2^64 - 1
+abbrev pub with_end : Run → Option ℕ → (ℕ → All Run) → All Run
+with_end r (Some e) go = before r (go e)
+with_end r None go = refused refusal.Overflow
 
-abbrev pub with_run : List ℕ → Made → (ℕ → All Run) → All Run
-with_run s (made.Is r) go = with_end r (end_of s r) go
-with_run s (made.Refused q) go = refused q
+abbrev pub with_run : List ℕ → Result Run Refusal → (ℕ → All Run) → All Run
+with_run s (Ok r) go = with_end r (end_of s r) go
+with_run s (Err q) go = refused q
 
 -- of k rows from row j on: the runs of the moof that begins at `start`, up to the next moof. `first` says that no traf
 -- came before, `previous` where the data of the traf before end
@@ -67,20 +62,20 @@ runs_in s t n start (suc k) j first previous =
 -- THE FRAGMENTS
 
 -- on with the number of a moof, or an answer without it
-abbrev pub with_number : {A : Type 0} → mfhd-found.Found → A → (ℕ → A) → A
-with_number (mfhd-is.Is h) without go = go h.sequence_number
-with_number (mfhd-is.Refused q) without go = without
+abbrev pub with_number : {A : Type 0} → Result Mfhd Refusal → A → (ℕ → A) → A
+with_number (Ok h) without go = go h.sequence_number
+with_number (Err q) without go = without
 
 abbrev pub with_runs : All Run → (List Run → All Fragment) → All Fragment
 with_runs (all rs) go = go rs
 with_runs (refused q) go = refused q
 
--- of k rows from row j on: the fragments; 8 at a moof whose mfhd is missing or is not read
+-- of k rows from row j on: the fragments; a moof is refused whose mfhd is missing or is not read
 unfoldable pub fragments_in : List ℕ → Boxes → ℕ → ℕ → ℕ → All Fragment
 fragments_in s t n zero j = all []
 fragments_in s t n (suc k) j =
     when (stands t moof j)
-    (with_number (mfhd_of (bytes_of s t (child t n mfhd (j + 1)))) (refused (refusal 8 (at t.starts j)))
+    (with_number (mfhd_of (bytes_of s t (child t n mfhd (j + 1)))) (refused (refusal.Value (at t.starts j)))
     (λ number. with_runs (runs_in s t n (at t.starts j) k (j + 1) true (at t.starts j))
     (λ rs. before (fragment (at t.starts j) number rs) (fragments_in s t n k (j + 1)))))
     (fragments_in s t n k (j + 1))
@@ -110,17 +105,21 @@ abbrev pub moof_numbers : List Moof → List ℕ
 moof_numbers [] = []
 moof_numbers (m ∷ ms) = mooftable.numbers_of m ++ moof_numbers ms
 
+-- how many rows there are in each table
+abbrev pub filled_record : ℕ → ℕ → Filled
+filled_record runs moofs = record { runs = runs; moofs = moofs }
+
 -- an answer, with the table of runs and that of moofs as they are left
 pub data Output : Type 0 where
-  output : Filled → List ℕ → List ℕ → Output
+  output : Result Filled Refusal → List ℕ → List ℕ → Output
 
 -- how many runs and moofs there are, and the tables with a row for each; or the tables as they were, and the first
--- refusal, else 12 with the rows that are needed where the table of runs, then that of moofs, has no room
+-- refusal, else the rows that are needed where the table of runs, then that of moofs, has no room
 abbrev pub fill_of : All Fragment → List ℕ → List ℕ → Output
-fill_of (refused q) r m = output (Refused q) r m
+fill_of (refused q) r m = output (Err q) r m
 fill_of (all fs) r m =
     when (leb (length (all_runs fs)) (runtable.holds r))
     (when (leb (length fs) (mooftable.holds m))
-    (output (Are (length (all_runs fs)) (length fs)) (sets r 0 (run_numbers (all_runs fs))) (sets m 0 (moof_numbers (moofs_from 0 fs))))
-    (output (Refused (refusal 12 (length fs))) r m))
-    (output (Refused (refusal 12 (length (all_runs fs)))) r m)
+    (output (Ok (filled_record (length (all_runs fs)) (length fs))) (sets r 0 (run_numbers (all_runs fs))) (sets m 0 (moof_numbers (moofs_from 0 fs))))
+    (output (Err (refusal.TooSmall (length fs))) r m))
+    (output (Err (refusal.TooSmall (length (all_runs fs)))) r m)

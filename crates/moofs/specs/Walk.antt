@@ -1,8 +1,9 @@
 -- INSIDE: one walk over the rows, which stores each moof and each run in its row. What the walk has left to store is
 -- the definition's fragments (proofs/Left.antt). Assumes nothing.
-use Rattle.std.specs.Prelude.{ℕ, zero, suc, ◌+◌, ◌≤◌, ◌≡◌, List, [], ◌∷◌, true, false, length}
+use Rattle.std.specs.Prelude.{ℕ, zero, suc, ◌+◌, ◌≤◌, ◌≡◌, List, [], ◌∷◌, true, false, length, Result, Option, Ok, Err, Some, None}
 use Rattle.std.proofs.lemmas.List.Edits.{sets}
-use Rattle.numbers.specs.Field.{refusal, when}
+use Rattle.numbers.specs.Field.{when}
+use Rattle.numbers.specs.declared.Refusal.TheVariants as refusal
 use Rattle.numbers.specs.declared.Refusal.{Refusal}
 use Rattle.places.specs.Kinds.{moof, traf, mfhd}
 use Rattle.kin.specs.Kin.{Boxes, at, stands}
@@ -11,20 +12,13 @@ use Rattle.put.specs.Put.{Wrote, wrote}
 use Rattle.mfhd.specs.Mfhd.{mfhd_of}
 use Rattle.runs.specs.Samples.{end_of}
 use Rattle.runs.specs.declared.Run.{Run}
-use Rattle.runstarts.specs.declared.Made.{Made}
-use Rattle.runstarts.specs.declared.Made.TheVariants as made
-use Rattle.runs.specs.declared.DataEnd.{DataEnd}
-use Rattle.runs.specs.declared.DataEnd.TheVariants as end
 use Rattle.trafs.specs.Trafs.{bytes_of, run_of}
 use Rattle.runtable.specs.Table as runtable
 use Rattle.mooftable.specs.Table as mooftable
 use Rattle.mooftable.specs.declared.Moof.{Moof}
-use Rattle.moofs.specs.Moofs.{Fragment, All, all, refused, with_number, all_runs, moofs_from, run_numbers, moof_numbers}
+use Rattle.moofs.specs.Moofs.{Fragment, All, all, refused, with_number, all_runs, moofs_from, run_numbers, moof_numbers, filled_record}
 use Rattle.moofs.specs.declared.State.{State}
-use Rattle.moofs.specs.declared.Step.{Step}
-use Rattle.moofs.specs.declared.Step.TheVariants as step
 use Rattle.moofs.specs.declared.Filled.{Filled}
-use Rattle.moofs.specs.declared.Filled.TheVariants.{Are, Refused}
 
 -- ONE ROW
 
@@ -48,15 +42,15 @@ added e σ = record { inside = true; start = σ.start; first = false; previous =
 -- a moof in row j
 unfoldable pub begin_of : List ℕ → Boxes → ℕ → ℕ → Move
 begin_of s t n j =
-    with_number (mfhd_of (bytes_of s t (child t n mfhd (j + 1)))) (stop (refusal 8 (at t.starts j))) (begins (at t.starts j))
+    with_number (mfhd_of (bytes_of s t (child t n mfhd (j + 1)))) (stop (refusal.Value (at t.starts j))) (begins (at t.starts j))
 
-abbrev pub add_to : Run → DataEnd → Move
-add_to r (end.At e) = adds r e
-add_to r end.Over = stop (refusal 9 0)
+abbrev pub add_to : Run → Option ℕ → Move
+add_to r (Some e) = adds r e
+add_to r None = stop refusal.Overflow
 
-abbrev pub add_by : List ℕ → Made → Move
-add_by s (made.Is r) = add_to r (end_of s r)
-add_by s (made.Refused q) = stop q
+abbrev pub add_by : List ℕ → Result Run Refusal → Move
+add_by s (Ok r) = add_to r (end_of s r)
+add_by s (Err q) = stop q
 
 -- a traf in row j
 unfoldable pub add_of : List ℕ → Boxes → ℕ → ℕ → State → Move
@@ -72,14 +66,14 @@ table_of (wrote p l) = l
 
 -- an answer for a row, with the tables as they are left
 pub data Turned : Type 0 where
-  turned : Step → List ℕ → List ℕ → Turned
+  turned : Result State Refusal → List ℕ → List ℕ → Turned
 
 -- what a move leaves, from the state before it and the tables; a row that has no room is not stored
 abbrev pub turn_of : State → Move → List ℕ → List ℕ → Turned
-turn_of σ still r m = turned (step.On σ) r m
-turn_of σ (begins start number) r m = turned (step.On (begun start σ)) r (table_of (mooftable.store_of (row start number σ.runs) σ.moofs m))
-turn_of σ (adds x e) r m = turned (step.On (added e σ)) (table_of (runtable.store_of x σ.runs r)) m
-turn_of σ (stop q) r m = turned (step.Refused q) r m
+turn_of σ still r m = turned (Ok σ) r m
+turn_of σ (begins start number) r m = turned (Ok (begun start σ)) r (table_of (mooftable.store_of (row start number σ.runs) σ.moofs m))
+turn_of σ (adds x e) r m = turned (Ok (added e σ)) (table_of (runtable.store_of x σ.runs r)) m
+turn_of σ (stop q) r m = turned (Err q) r m
 
 -- ALL ROWS
 
@@ -113,9 +107,9 @@ plan_of (all fs) = plan (all_runs fs) (moofs_from 0 fs)
 plan_of (refused q) = none q
 
 -- how many there are, after i runs and k moofs
-abbrev pub tally : ℕ → ℕ → Plan → Filled
-tally i k (plan rs ms) = Are (i + length rs) (k + length ms)
-tally i k (none q) = Refused q
+abbrev pub tally : ℕ → ℕ → Plan → Result Filled Refusal
+tally i k (plan rs ms) = Ok (filled_record (i + length rs) (k + length ms))
+tally i k (none q) = Err q
 
 -- the tables after the walk, where all rows have room
 abbrev pub Stored : Plan → List ℕ → List ℕ → List ℕ → List ℕ → Type 0

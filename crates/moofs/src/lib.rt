@@ -1,4 +1,4 @@
-#![tactic(auto)]
+#![tactic(auto, unfolding(numbers::specs::Field::when, numbers::specs::Field::field))]
 // The fragments of a file, by the boxes that are recorded in the tables: every moof and every run as a row of a lent table.
 ghost use Rattle.std.specs.Prelude.{◌≡◌, ◌<◌, ◌≤◌, ◌+◌, min};
 ghost use Rattle.places.specs.Visit.{box_limit};
@@ -8,21 +8,17 @@ ghost use Rattle.inside.specs.Inside.{child};
 ghost use Rattle.mfhd.specs.Mfhd.{mfhd_of};
 ghost use Rattle.trafs.specs.Trafs.{bytes_of};
 ghost use Rattle.moofs.specs.Moofs.{fragments_of, output, fill_of};
-ghost use Rattle.numbers.specs.Field.{refusal};
-ghost use Rattle.moofs.specs.declared.Filled.TheVariants.{Refused};
 ghost use Rattle.moofs.specs.Walk.{begin_of, add_of, move_of, turned, turn_of, plan_of, tally, Stored};
 
 use mooftable::Moof;
 use numbers::Refusal;
 use places::kinds;
-use runs::DataEnd;
-use runstarts::Made;
 
 // How many rows there are in each table.
 #[derive(Clone, Copy)]
-pub enum Filled {
-    Are { runs: usize, moofs: usize },
-    Refused(Refusal),
+pub struct Filled {
+    pub runs: usize,
+    pub moofs: usize,
 }
 
 // inside: whether there was a moof; start: its first byte; first: whether its first traf is still to come; previous: where
@@ -35,12 +31,6 @@ struct State {
     previous: u64,
     runs: usize,
     moofs: usize,
-}
-
-#[derive(Clone, Copy)]
-enum Step {
-    On(State),
-    Refused(Refusal),
 }
 
 fn rows(n: usize) -> usize
@@ -87,7 +77,7 @@ fn head(
     kinds: &[usize; 4096],
     parents: &[usize; 4096],
     placed: &[usize; 4096],
-) -> mfhd::Found
+) -> Result<mfhd::Mfhd, Refusal>
     ensures { result ≡ mfhd_of (bytes_of s.now (boxes starts.now sizes.now kinds.now parents.now placed.now) (child (boxes starts.now sizes.now kinds.now parents.now placed.now) n mfhd moof)) }
 {
     let p = inside::child(kinds::MFHD, moof, n, starts, sizes, kinds, parents, placed);
@@ -107,16 +97,13 @@ fn begin(
     placed: &[usize; 4096],
     runs: &mut [u64],
     moofs: &mut [u64],
-) -> Step
+) -> Result<State, Refusal>
     requires { (j < 4096) × (state.moofs ≤ j) }
     ensures { turned result runs.new moofs.new ≡ turn_of state (begin_of s.now (boxes starts.now sizes.now kinds.now parents.now placed.now) n j) runs.old moofs.old }
 {
     let start = starts[j];
-    let mfhd::Found::Is(h) = head(s, n, j + 1, starts, sizes, kinds, parents, placed) else {
-        return Step::Refused(Refusal {
-            number: 8,
-            detail: start,
-        });
+    let Ok(h) = head(s, n, j + 1, starts, sizes, kinds, parents, placed) else {
+        return Err(Refusal::Value(start));
     };
     let first_run = state.runs;
     let row = Moof {
@@ -124,9 +111,10 @@ fn begin(
         number: h.sequence_number,
         runs: first_run,
     };
-    mooftable::store(moofs, state.moofs, row);
+    // A row that has no room is counted and not stored.
+    let _ = mooftable::store(moofs, state.moofs, row);
     let stored = state.moofs + 1;
-    Step::On(State {
+    Ok(State {
         inside: true,
         start: start as u64,
         first: true,
@@ -149,11 +137,11 @@ fn add(
     placed: &[usize; 4096],
     runs: &mut [u64],
     moofs: &mut [u64],
-) -> Step
+) -> Result<State, Refusal>
     requires { (j < 4096) × (state.runs ≤ j) }
     ensures { turned result runs.new moofs.new ≡ turn_of state (add_of s.now (boxes starts.now sizes.now kinds.now parents.now placed.now) n j state) runs.old moofs.old }
 {
-    match trafs::run(
+    let run = trafs::run(
         s,
         n,
         j + 1,
@@ -165,27 +153,20 @@ fn add(
         state.start,
         state.first,
         state.previous,
-    ) {
-        Made::Refused(q) => Step::Refused(q),
-        Made::Is(run) => {
-            let DataEnd::At(end) = runsums::end(s, run) else {
-                return Step::Refused(Refusal {
-                    number: 9,
-                    detail: 0,
-                });
-            };
-            runtable::store(runs, state.runs, run);
-            let stored = state.runs + 1;
-            Step::On(State {
-                inside: true,
-                start: state.start,
-                first: false,
-                previous: end,
-                runs: stored,
-                moofs: state.moofs,
-            })
-        }
-    }
+    )?;
+    let Some(end) = runsums::end(s, run) else {
+        return Err(Refusal::Overflow);
+    };
+    let _ = runtable::store(runs, state.runs, run);
+    let stored = state.runs + 1;
+    Ok(State {
+        inside: true,
+        start: state.start,
+        first: false,
+        previous: end,
+        runs: stored,
+        moofs: state.moofs,
+    })
 }
 
 // What row j does to the state and the tables.
@@ -201,7 +182,7 @@ fn turn(
     placed: &[usize; 4096],
     runs: &mut [u64],
     moofs: &mut [u64],
-) -> Step
+) -> Result<State, Refusal>
     requires { (j < 4096) × (state.runs ≤ j) × (state.moofs ≤ j) }
     ensures { turned result runs.new moofs.new ≡ turn_of state (move_of s.now (boxes starts.now sizes.now kinds.now parents.now placed.now) n j state) runs.old moofs.old }
 {
@@ -217,7 +198,7 @@ fn turn(
             );
         }
     }
-    Step::On(state)
+    Ok(state)
 }
 
 // The rows one by one: each moof and each run is counted, and stored where its table has room. One loop serves the count,
@@ -232,7 +213,7 @@ fn walk(
     placed: &[usize; 4096],
     runs: &mut [u64],
     moofs: &mut [u64],
-) -> Filled
+) -> Result<Filled, Refusal>
     ensures count { result ≡ tally 0 0 (plan_of (fragments_of s.now (boxes starts.now sizes.now kinds.now parents.now placed.now) n)) }
     ensures tables { Stored (plan_of (fragments_of s.now (boxes starts.now sizes.now kinds.now parents.now placed.now) n)) runs.old runs.new moofs.old moofs.new }
 {
@@ -247,22 +228,15 @@ fn walk(
     };
     let mut j = 0;
     while j < end {
-        match turn(
+        state = turn(
             s, n, j, state, starts, sizes, kinds, parents, placed, runs, moofs,
-        ) {
-            Step::Refused(q) => {
-                return Filled::Refused(q);
-            }
-            Step::On(after) => {
-                state = after;
-                j = j + 1;
-            }
-        }
+        )?;
+        j = j + 1;
     }
-    Filled::Are {
+    Ok(Filled {
         runs: state.runs,
         moofs: state.moofs,
-    }
+    })
 }
 
 // How many rows there are.
@@ -274,7 +248,7 @@ fn count(
     kinds: &[usize; 4096],
     parents: &[usize; 4096],
     placed: &[usize; 4096],
-) -> Filled
+) -> Result<Filled, Refusal>
     ensures { result ≡ tally 0 0 (plan_of (fragments_of s.now (boxes starts.now sizes.now kinds.now parents.now placed.now) n)) }
 {
     let mut none = [0u64; 1];
@@ -292,17 +266,8 @@ fn count(
     )
 }
 
-fn refuse(rows: usize) -> Filled
-    ensures { result ≡ Refused (refusal 12 rows) }
-{
-    Filled::Refused(Refusal {
-        number: 12,
-        detail: rows,
-    })
-}
-
 // Every moof and every run as a row of its table, one behind the other; or the tables as they were, and the first
-// refusal, else 12 where the rows have no room.
+// refusal, else how many rows there are where they have no room.
 pub fn fill(
     s: &[u8],
     n: usize,
@@ -313,26 +278,15 @@ pub fn fill(
     placed: &[usize; 4096],
     runs: &mut [u64],
     moofs: &mut [u64],
-) -> Filled
+) -> Result<Filled, Refusal>
     ensures { output result runs.new moofs.new ≡ fill_of (fragments_of s.now (boxes starts.now sizes.now kinds.now parents.now placed.now) n) runs.old moofs.old }
 {
-    match count(s, n, starts, sizes, kinds, parents, placed) {
-        Filled::Refused(q) => Filled::Refused(q),
-        Filled::Are {
-            runs: many,
-            moofs: few,
-        } => {
-            if runs.len() / runtable::ROW < many {
-                return refuse(many);
-            }
-            if moofs.len() / mooftable::ROW < few {
-                return refuse(few);
-            }
-            walk(s, n, starts, sizes, kinds, parents, placed, runs, moofs);
-            Filled::Are {
-                runs: many,
-                moofs: few,
-            }
-        }
+    let filled = count(s, n, starts, sizes, kinds, parents, placed)?;
+    if runs.len() / runtable::ROW < filled.runs {
+        return Err(Refusal::TooSmall(filled.runs));
     }
+    if moofs.len() / mooftable::ROW < filled.moofs {
+        return Err(Refusal::TooSmall(filled.moofs));
+    }
+    walk(s, n, starts, sizes, kinds, parents, placed, runs, moofs)
 }

@@ -1,13 +1,11 @@
 -- Moofs in a lent table of numbers: a row of three numbers for each, one row behind the other. Assumes nothing.
-use Rattle.std.specs.Prelude.{ℕ, ◌+◌, ◌*◌, ◌/◌, ◌%◌, ◌^◌, min, List, [], ◌∷◌, length, get_or, ltb}
+use Rattle.std.specs.Prelude.{ℕ, ◌+◌, ◌*◌, ◌/◌, ◌%◌, ◌^◌, min, List, [], ◌∷◌, length, get_or, ltb, Option, Ok, Err, Some, None}
 use Rattle.std.proofs.lemmas.List.Edits.{sets}
-use Rattle.numbers.specs.Field.{refusal, when}
+use Rattle.numbers.specs.Field.{when}
+use Rattle.numbers.specs.declared.Refusal.TheVariants as refusal
 use Rattle.put.specs.Put.{Wrote, wrote}
-use Rattle.put.specs.declared.Put.TheVariants.{Done, Refused}
 use Rattle.tables.specs.Tables.{listed}
 use Rattle.mooftable.specs.declared.Moof.{Moof}
-use Rattle.mooftable.specs.declared.Found.{Found}
-use Rattle.mooftable.specs.declared.Found.TheVariants.{Is, Missing}
 
 abbrev pub row_length : ℕ
 row_length = 3
@@ -29,8 +27,8 @@ cell t i k = get_or t (i * row_length + k) 0
 unfoldable pub row_at : List ℕ → ℕ → Moof
 row_at t i = record { start = cell t i 0; number = cell t i 1 % 2 ^ 32; runs = cell t i 2 }
 
-abbrev pub row_of : List ℕ → ℕ → Found
-row_of t i = when (ltb i (holds t)) (Is (row_at t i)) Missing
+abbrev pub row_of : List ℕ → ℕ → Option Moof
+row_of t i = when (ltb i (holds t)) (Some (row_at t i)) None
 
 -- the first n rows, or as many as the table holds
 abbrev pub rows_of : List ℕ → ℕ → List Moof
@@ -40,5 +38,5 @@ rows_of t n = listed (row_at t) (min n (holds t))
 -- that is no 64-bit number, and the table stays
 abbrev pub store_of : Moof → ℕ → List ℕ → Wrote
 store_of m i t =
-    when (ltb i (holds t)) (wrote (Done (i + 1)) (sets t (i * row_length) (numbers_of m)))
-    (when (ltb (i + 1) (2 ^ 64)) (wrote (Refused (refusal 12 (i + 1))) t) (wrote (Refused (refusal 9 0)) t))
+    when (ltb i (holds t)) (wrote (Ok (i + 1)) (sets t (i * row_length) (numbers_of m)))
+    (when (ltb (i + 1) (2 ^ 64)) (wrote (Err (refusal.TooSmall (i + 1))) t) (wrote (Err refusal.Overflow) t))

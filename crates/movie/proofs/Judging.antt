@@ -1,4 +1,5 @@
 -- The audit of a movie from the answers of its parts. Assumes nothing.
+use Rattle.std.specs.Prelude.{Result, Option, Ok, Err, Some, None}
 use Prim.Native.Nat.{ℕ, zero, suc, ◌+◌, ◌≤◌, ◌^◌, min}
 use mathlib.Core.Path.{◌≡◌, refl, sym, ap, ap₂, ◌∙◌}
 use mathlib.Core.List.{List, [], ◌∷◌, map}
@@ -8,9 +9,9 @@ use lib.ListN.{length, take, drop, get_or}
 use lib.Seq.{drop-cons, take_all}
 use lib.Dec.{ltb, leb}
 use borrow.Author.Tests.{leb-true, leb-false}
-use Rattle.numbers.specs.Field.{when, refusal}
+use Rattle.numbers.specs.Field.{when}
+use Rattle.numbers.specs.declared.Refusal.TheVariants as refusal
 use Rattle.rows.specs.Judge.{settle}
-use Rattle.rows.specs.declared.Judged.TheVariants.{Fine, Wrong}
 use Rattle.samples.specs.Lists.{all_held}
 use Rattle.samples.specs.declared.Sample.{Sample}
 use Rattle.tables.specs.declared.Track as tables
@@ -27,8 +28,6 @@ use Rattle.verdicts.specs.Findings.{Track, track, Span, Answer, passes, found, F
 use Rattle.verdicts.specs.Sweep.{total, bytes, sweep}
 use Rattle.verdicts.specs.Fragments.{Moof, Clock, free, clocks_of, follow, follow_from}
 use Rattle.verdicts.specs.Audit.{agreements, passed, verdict, audit_of, audited}
-use Rattle.verdicts.specs.declared.Asked.{Asked}
-use Rattle.verdicts.specs.declared.Asked.TheVariants as told
 use Rattle.verdicts.specs.declared.Audited.{Audited}
 use Rattle.verdicts.specs.declared.Audited.TheVariants as answer
 use Rattle.verdicts.proofs.Order.{or_else, audit-parts}
@@ -43,10 +42,9 @@ use Rattle.sweeps.proofs.Laws.{fitting-all}
 use Rattle.sweeps.proofs.Bare.{bare_of, sites-are, sweep-alike}
 use Rattle.lanes.specs.Site.{bare}
 use Rattle.movie.specs.Movie.{Movie, movie_of, is_fragmented, samples_by, tracks_by, tracks_of, samples_fit, sums_fit, has_samples, refusal_in, judge_of}
-use Rattle.movie.specs.declared.Sum.{Sum}
-use Rattle.movie.specs.declared.Sum.TheVariants.{Is, Over}
 use Rattle.movie.specs.Inside.{agreement, agreed, pass_all, is_over, first_of, samples_in, breaks, last_of, or_asked, told_of, is_some, media_of}
 use Rattle.movie.proofs.Booleans.{both, not-true, not-false}
+use Rattle.verdicts.specs.declared.Finding.{Finding}
 
 -- TRACKS, by what the sweep and the questions have of them
 
@@ -63,7 +61,7 @@ module _ (b : Bool) (f : List ℕ) (rs : List Run) where
     where
       cases : (x : Bool) → first_found (when x passes (found (F1 n)) ∷ l) ≡ passes → (x ≡ true) × (first_found l ≡ passes)
       cases true e = (refl, e)
-      cases false e = let z : ◌≡◌ {A = ℕ} 0 1 = cc in absurd (omega arith)
+      cases false e = let z : ◌≡◌ {A = ℕ} 0 1 = cc e in absurd (omega arith)
 
   -- where the tables agree and every sample fits, the sweep has the places of the tracks' samples
   same-places : (c : Bool) (n : ℕ) (t : tables.Track) → agree_of f t ≡ true → all_held (samples_of f t) && all_held (samples_by c f t rs n) ≡ true
@@ -107,31 +105,31 @@ told-verdict ts m passes = refl
 told-verdict ts m (found x) = refl
 
 -- only where all passes are the numbers told
-any-numbers : (a : Asked) (i j k l m n : ℕ) → (a ≡ told.Passes → (i ≡ l) × (j ≡ m) × (k ≡ n)) → told_of a i j k ≡ told_of a l m n
-any-numbers told.Passes i j k l m n h =
+any-numbers : (a : Option Finding) (i j k l m n : ℕ) → (a ≡ None → (i ≡ l) × (j ≡ m) × (k ≡ n)) → told_of a i j k ≡ told_of a l m n
+any-numbers None i j k l m n h =
     let (p, q, r) = h refl in
     ap (λ (x : ℕ). answer.Clean x j k) p ∙ ap₂ (λ (x y : ℕ). answer.Clean l x y) q r
-any-numbers (told.Found x) i j k l m n h = refl
+any-numbers (Some x) i j k l m n h = refl
 
-passes-first : (a b : Asked) → or_asked a b ≡ told.Passes → (a ≡ told.Passes) × (b ≡ told.Passes)
-passes-first told.Passes b e = (refl, e)
-passes-first (told.Found x) b e = let z : ◌≡◌ {A = ℕ} 0 1 = cc in absurd (omega arith)
+passes-first : (a b : Option Finding) → or_asked a b ≡ None → (a ≡ None) × (b ≡ None)
+passes-first None b e = (refl, e)
+passes-first (Some x) b e = let z : ◌≡◌ {A = ℕ} 0 1 = cc e in absurd (omega arith)
 
 -- THE PASS
 
 module _ (b : Bool) (f : List ℕ) (rs : List Run) (ns : List ℕ) (ts : List tables.Track) (p : Passed) (e : p ≡ pass_all b f rs ns ts) where
   by-pass : (x : Bool) (k : ℕ) (a : Answer) → p ≡ when x (tell k a) pass.Over
-      → (is_over p ≡ true → x ≡ false) × (is_over p ≡ false → (x ≡ true) × (first_of p ≡ asked a) × (first_of p ≡ told.Passes → samples_in p ≡ k))
+      → (is_over p ≡ true → x ≡ false) × (is_over p ≡ false → (x ≡ true) × (first_of p ≡ asked a) × (first_of p ≡ None → samples_in p ≡ k))
   unfolding when
   by-pass true k passes q = rw q (λ z. absurd (not-true z), λ z. (refl, refl, λ y. refl))
   by-pass true k (found w) q = rw q (λ z. absurd (not-true z), λ z. (refl, refl, λ y. absurd (worse y)))
     where
-      worse : told.Found w ≡ told.Passes → ⊥
-      worse z = let y : ◌≡◌ {A = ℕ} 0 1 = cc in omega arith
+      worse : Some w ≡ None → ⊥
+      worse z = let y : ◌≡◌ {A = ℕ} 0 1 = cc z in omega arith
   by-pass false k a q = rw q (λ z. refl, λ z. absurd (not-false z))
 
   pub pass-told : (is_over p ≡ true → samples_fit b f rs ns ts ≡ false)
-      × (is_over p ≡ false → (samples_fit b f rs ns ts ≡ true) × (first_of p ≡ asked (first_found (passed (tracks_by b f rs ns ts)))) × (first_of p ≡ told.Passes → samples_in p ≡ total (tracks_by b f rs ns ts)))
+      × (is_over p ≡ false → (samples_fit b f rs ns ts ≡ true) × (first_of p ≡ asked (first_found (passed (tracks_by b f rs ns ts)))) × (first_of p ≡ None → samples_in p ≡ total (tracks_by b f rs ns ts)))
   unfolding pass_all
   pass-told = by-pass (samples_fit b f rs ns ts) (total (tracks_by b f rs ns ts)) (first_found (passed (tracks_by b f rs ns ts))) e
 
@@ -170,39 +168,39 @@ fragmented-is f rs (m ∷ ms) = refl
 
 -- THE MEDIA DATA
 
-pub media-fits : (s : Sum) (n : ℕ) → s ≡ media_of n → ((k : ℕ) → s ≡ Is k → (k ≡ n) × (ltb n (2 ^ 64) ≡ true)) × (s ≡ Over → ltb n (2 ^ 64) ≡ false)
+pub media-fits : (s : Option ℕ) (n : ℕ) → s ≡ media_of n → ((k : ℕ) → s ≡ Some k → (k ≡ n) × (ltb n (2 ^ 64) ≡ true)) × (s ≡ None → ltb n (2 ^ 64) ≡ false)
 unfolding media_of when
 media-fits s n e = cases (ltb n (2 ^ 64)) e
   where
-    number_in : Sum → ℕ
-    number_in (Is k) = k
-    number_in Over = 0
+    number_in : Option ℕ → ℕ
+    number_in (Some k) = k
+    number_in None = 0
 
-    some : Is n ≡ Over → ⊥
-    some z = let y : ◌≡◌ {A = ℕ} 0 1 = cc in omega arith
+    some : Some n ≡ None → ⊥
+    some z = let y : ◌≡◌ {A = ℕ} 0 1 = cc z in omega arith
 
-    cases : (x : Bool) → s ≡ when x (Is n) Over → ((k : ℕ) → s ≡ Is k → (k ≡ n) × (x ≡ true)) × (s ≡ Over → x ≡ false)
+    cases : (x : Bool) → s ≡ when x (Some n) None → ((k : ℕ) → s ≡ Some k → (k ≡ n) × (x ≡ true)) × (s ≡ None → x ≡ false)
     cases true e = (λ k q. (ap number_in (sym q ∙ e), refl), λ q. absurd (some (sym e ∙ q)))
     cases false e = (λ k q. absurd (none k (sym q ∙ e)), λ q. refl)
       where
-        none : (k : ℕ) → Is k ≡ Over → ⊥
-        none k z = let y : ◌≡◌ {A = ℕ} 0 1 = cc in omega arith
+        none : (k : ℕ) → Some k ≡ None → ⊥
+        none k z = let y : ◌≡◌ {A = ℕ} 0 1 = cc z in omega arith
 
 -- ALL TOGETHER
 
 module _ (m : Movie) where
-  pub judged-9 : sums_fit m ≡ false → answer.Refused (refusal 9 0) ≡ judge_of m
+  pub judged-9 : sums_fit m ≡ false → answer.Refused refusal.Overflow ≡ judge_of m
   unfolding judge_of refusal_in when
-  judged-9 e = sym (ap (λ (x : Bool). settle (audited (audit_of (tracks_of m) m.payloads m.moofs)) answer.Refused (when x (when (is_fragmented m.moofs && has_samples m.tables) (Wrong (refusal 10 0)) Fine) (Wrong (refusal 9 0)))) e)
+  judged-9 e = sym (ap (λ (x : Bool). settle (audited (audit_of (tracks_of m) m.payloads m.moofs)) answer.Refused (when x (when (is_fragmented m.moofs && has_samples m.tables) (Err refusal.Mixed) (Ok tt)) (Err refusal.Overflow))) e)
 
   module _ (e : sums_fit m ≡ true) where
     by-mixed : (x : Bool) → is_fragmented m.moofs && has_samples m.tables ≡ x
-        → judge_of m ≡ settle (audited (audit_of (tracks_of m) m.payloads m.moofs)) answer.Refused (when x (Wrong (refusal 10 0)) Fine)
+        → judge_of m ≡ settle (audited (audit_of (tracks_of m) m.payloads m.moofs)) answer.Refused (when x (Err refusal.Mixed) (Ok tt))
     unfolding judge_of refusal_in when
     by-mixed x q =
-        ap₂ (λ (y z : Bool). settle (audited (audit_of (tracks_of m) m.payloads m.moofs)) answer.Refused (when y (when z (Wrong (refusal 10 0)) Fine) (Wrong (refusal 9 0)))) e q
+        ap₂ (λ (y z : Bool). settle (audited (audit_of (tracks_of m) m.payloads m.moofs)) answer.Refused (when y (when z (Err refusal.Mixed) (Ok tt)) (Err refusal.Overflow))) e q
 
-    pub judged-10 : is_fragmented m.moofs && has_samples m.tables ≡ true → answer.Refused (refusal 10 0) ≡ judge_of m
+    pub judged-10 : is_fragmented m.moofs && has_samples m.tables ≡ true → answer.Refused refusal.Mixed ≡ judge_of m
     unfolding when
     judged-10 q = sym (by-mixed true q)
 
@@ -212,7 +210,7 @@ module _ (m : Movie) where
 
     -- the questions one after the other, each by what the code asked
     module _ (b : Bool) (fb : b ≡ is_fragmented m.moofs) (same : length m.numbers ≡ length m.tables) (fit : samples_fit b m.file m.runs m.numbers m.tables ≡ true)
-        (A P S F : Asked) (ea : A ≡ asked (first_found (agreed m.file m.numbers m.tables)))
+        (A P S F : Option Finding) (ea : A ≡ asked (first_found (agreed m.file m.numbers m.tables)))
         (ep : P ≡ asked (first_found (passed (tracks_by b m.file m.runs m.numbers m.tables))))
         (es : S ≡ asked (sweep m.payloads (tracks_in b m.file m.runs m.numbers m.tables)))
         (ef : F ≡ asked (first_found (follow_from free (follows.clocks m.numbers) m.moofs)))
@@ -239,19 +237,19 @@ module _ (m : Movie) where
 
         all_asked : or_asked (or_asked A P) (or_asked S F) ≡ asked (or_else agreeing (or_else (first_found (passed ts)) (or_else (sweep m.payloads ts) (first_found (follow ts m.moofs)))))
         all_asked =
-            ap₂ (λ (x y : Asked). or_asked (or_asked x P) (or_asked S y)) (ea ∙ ap asked agreeing-is) (ef ∙ ap asked following-is)
-            ∙ ap₂ (λ (x y : Asked). or_asked (or_asked (asked agreeing) x) (or_asked y (asked (first_found (follow ts m.moofs))))) ep es
+            ap₂ (λ (x y : Option Finding). or_asked (or_asked x P) (or_asked S y)) (ea ∙ ap asked agreeing-is) (ef ∙ ap asked following-is)
+            ∙ ap₂ (λ (x y : Option Finding). or_asked (or_asked (asked agreeing) x) (or_asked y (asked (first_found (follow ts m.moofs))))) ep es
             ∙ ap₂ or_asked (or-asked agreeing (first_found (passed ts))) (or-asked (sweep m.payloads (tracks_in b m.file m.runs m.numbers m.tables)) (first_found (follow ts m.moofs)))
             ∙ or-asked (or_else agreeing (first_found (passed ts))) (or_else (sweep m.payloads (tracks_in b m.file m.runs m.numbers m.tables)) (first_found (follow ts m.moofs)))
             ∙ ap asked (or-nested agreeing (first_found (passed ts)) (sweep m.payloads (tracks_in b m.file m.runs m.numbers m.tables)) (first_found (follow ts m.moofs)) ∙ only_then agreeing refl (first_found (passed ts)))
 
-        pub all-judged : is_fragmented m.moofs && has_samples m.tables ≡ false → (k s c : ℕ) → k ≡ length m.numbers → (P ≡ told.Passes → s ≡ total ts) → c ≡ bytes m.payloads
+        pub all-judged : is_fragmented m.moofs && has_samples m.tables ≡ false → (k s c : ℕ) → k ≡ length m.numbers → (P ≡ None → s ≡ total ts) → c ≡ bytes m.payloads
             → (r : Audited) → r ≡ told_of (or_asked (or_asked A P) (or_asked S F)) k s c → r ≡ judge_of m
         all-judged q k s c ek et ec r er =
             er
             ∙ any-numbers (or_asked (or_asked A P) (or_asked S F)) k s c (length ts) (total ts) (bytes m.payloads)
             (λ z. (ek ∙ sym (how-many b m.file m.runs m.numbers m.tables same), et (passes-first A P (passes-first (or_asked A P) (or_asked S F) z).0).1, ec))
-            ∙ ap (λ (x : Asked). told_of x (length ts) (total ts) (bytes m.payloads)) all_asked
+            ∙ ap (λ (x : Option Finding). told_of x (length ts) (total ts) (bytes m.payloads)) all_asked
             ∙ told-verdict ts m.payloads (or_else agreeing (or_else (first_found (passed ts)) (or_else (sweep m.payloads ts) (first_found (follow ts m.moofs)))))
             ∙ ap audited (sym (audit-parts ts m.payloads m.moofs))
             ∙ ap (λ (x : Bool). audited (audit_of (tracks_by x m.file m.runs m.numbers m.tables) m.payloads m.moofs)) fb
@@ -273,34 +271,34 @@ module _ (f : List ℕ) (pay : List Span) (ns : List ℕ) (ts : List tables.Trac
       ∙ ap₂ (λ (c d : Bool). c && (d && ltb (bytes pay) (2 ^ 64))) h j ∙ ap (λ (c : Bool). x && (y && c)) k
 
   module _ (o : Bool) (eo : o ≡ is_over p) where
-    pub over-9 : o ≡ true → (r : Audited) → r ≡ answer.Refused (refusal 9 0) → r ≡ judge_of whole
+    pub over-9 : o ≡ true → (r : Audited) → r ≡ answer.Refused refusal.Overflow → r ≡ judge_of whole
     over-9 q r er = er ∙ judged-9 whole (sums_by false _ _ ((pass-told b f rs ns ts p ep).0 (sym eo ∙ q)) refl refl)
 
     module _ (fine : o ≡ false) (w : Followed) (ew : w ≡ follows.followed_of f rs ms ns) (k : Bool) (ek : k ≡ breaks w) where
       samples : samples_fit b f rs ns ts ≡ true
       samples = ((pass-told b f rs ns ts p ep).1 (sym eo ∙ fine)).0
 
-      pub breaks-9 : k ≡ true → (r : Audited) → r ≡ answer.Refused (refusal 9 0) → r ≡ judge_of whole
+      pub breaks-9 : k ≡ true → (r : Audited) → r ≡ answer.Refused refusal.Overflow → r ≡ judge_of whole
       breaks-9 q r er = er ∙ judged-9 whole (sums_by true false _ samples ((follow-told w f rs ms ns ew).0 (sym ek ∙ q)) refl)
 
-      module _ (follows_on : k ≡ false) (s : Sum) (es : s ≡ media_of (bytes pay)) where
+      module _ (follows_on : k ≡ false) (s : Option ℕ) (es : s ≡ media_of (bytes pay)) where
         gaps : follows.gaps_fit ns (follows.moofs_in f rs ms) ≡ true
         gaps = ((follow-told w f rs ms ns ew).1 (sym ek ∙ follows_on)).0
 
-        pub media-9 : s ≡ Over → (r : Audited) → r ≡ answer.Refused (refusal 9 0) → r ≡ judge_of whole
+        pub media-9 : s ≡ None → (r : Audited) → r ≡ answer.Refused refusal.Overflow → r ≡ judge_of whole
         media-9 q r er = er ∙ judged-9 whole (sums_by true true false samples gaps ((media-fits s (bytes pay) es).1 q))
 
-        module _ (c : ℕ) (ec : s ≡ Is c) (h : Bool) (eh : h ≡ has_samples ts) where
+        module _ (c : ℕ) (ec : s ≡ Some c) (h : Bool) (eh : h ≡ has_samples ts) where
           sums : sums_fit whole ≡ true
           sums = sums_by true true true samples gaps ((media-fits s (bytes pay) es).0 c ec).1
 
           mixed-is : b && h ≡ is_fragmented whole.moofs && has_samples ts
           mixed-is = ap₂ (λ (x y : Bool). x && y) fragmented eh
 
-          pub mixed-10 : b && h ≡ true → (r : Audited) → r ≡ answer.Refused (refusal 10 0) → r ≡ judge_of whole
+          pub mixed-10 : b && h ≡ true → (r : Audited) → r ≡ answer.Refused refusal.Mixed → r ≡ judge_of whole
           mixed-10 q r er = er ∙ judged-10 whole sums (sym mixed-is ∙ q)
 
-          pub ends : b && h ≡ false → length ns ≡ length ts → (A S : Asked) → A ≡ asked (first_found (agreed f ns ts)) → S ≡ asked (sweep pay (tracks_in b f rs ns ts))
+          pub ends : b && h ≡ false → length ns ≡ length ts → (A S : Option Finding) → A ≡ asked (first_found (agreed f ns ts)) → S ≡ asked (sweep pay (tracks_in b f rs ns ts))
               → (n i : ℕ) → n ≡ length ns → i ≡ samples_in p → (r : Audited) → r ≡ told_of (or_asked (or_asked A (first_of p)) (or_asked S (last_of w))) n i c → r ≡ judge_of whole
           ends q same A S ea es' n i en ei r er =
               let (u, v, x) = (pass-told b f rs ns ts p ep).1 (sym eo ∙ fine) in

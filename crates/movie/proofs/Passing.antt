@@ -1,4 +1,5 @@
 -- The pass over tracks, track by track. Assumes nothing.
+use Rattle.std.specs.Prelude.{Option, Some, None}
 use Prim.Native.Nat.{ℕ, ◌+◌, ◌-◌, ◌*◌, ◌<◌, ◌≤◌, ◌^◌, min}
 use mathlib.Core.Path.{◌≡◌, refl, sym, ap, ap₂, ◌∙◌}
 use mathlib.Core.List.{List, [], ◌∷◌}
@@ -16,8 +17,6 @@ use Rattle.verdicts.specs.Findings.{Track, track, Answer, passes, found, first_f
 use Rattle.verdicts.specs.Sweep.{sum_in, total}
 use Rattle.verdicts.specs.Audit.{passed_in, passed}
 use Rattle.verdicts.specs.declared.Finding.{Finding}
-use Rattle.verdicts.specs.declared.Asked.{Asked}
-use Rattle.verdicts.specs.declared.Asked.TheVariants as told
 use Rattle.verdicts.proofs.Order.{or_else, first-join}
 use Rattle.passes.specs.Passed.{tell, passed_of}
 use Rattle.passes.specs.declared.Passed.{Passed}
@@ -40,8 +39,8 @@ module _ (b : Bool) (f : List ℕ) (rs : List Run) (n : ℕ) (t : tables.Track) 
   module _ (r : Passed) (e : r ≡ pass_of b f rs n t) where
     over-both : (x y : Bool) (k : ℕ) (a : Answer) → when x (when y (tell k a) Over) Over ≡ Over → x && y ≡ false
     unfolding when
-    over-both true true k passes q = let z : ◌≡◌ {A = ℕ} 0 1 = cc in absurd (omega arith)
-    over-both true true k (found w) q = let z : ◌≡◌ {A = ℕ} 0 1 = cc in absurd (omega arith)
+    over-both true true k passes q = let z : ◌≡◌ {A = ℕ} 0 1 = cc q in absurd (omega arith)
+    over-both true true k (found w) q = let z : ◌≡◌ {A = ℕ} 0 1 = cc q in absurd (omega arith)
     over-both true false k a q = refl
     over-both false y k a q = refl
 
@@ -58,16 +57,16 @@ module _ (b : Bool) (f : List ℕ) (rs : List Run) (n : ℕ) (t : tables.Track) 
     fine-both : (x y : Bool) (k j : ℕ) (a : Answer) → when x (when y (tell k a) Over) Over ≡ Fine j → (x && y ≡ true) × (j ≡ k) × (a ≡ passes)
     unfolding when number_in
     fine-both true true k j passes q = (refl, sym (ap number_in q), refl)
-    fine-both true true k j (found w) q = let z : ◌≡◌ {A = ℕ} 0 1 = cc in absurd (omega arith)
-    fine-both true false k j a q = let z : ◌≡◌ {A = ℕ} 0 1 = cc in absurd (omega arith)
-    fine-both false y k j a q = let z : ◌≡◌ {A = ℕ} 0 1 = cc in absurd (omega arith)
+    fine-both true true k j (found w) q = let z : ◌≡◌ {A = ℕ} 0 1 = cc q in absurd (omega arith)
+    fine-both true false k j a q = let z : ◌≡◌ {A = ℕ} 0 1 = cc q in absurd (omega arith)
+    fine-both false y k j a q = let z : ◌≡◌ {A = ℕ} 0 1 = cc q in absurd (omega arith)
 
     found-both : (x y : Bool) (k : ℕ) (a : Answer) (w : Finding) → when x (when y (tell k a) Over) Over ≡ Found w → (x && y ≡ true) × (a ≡ found w)
     unfolding when finding_in
-    found-both true true k passes w q = let z : ◌≡◌ {A = ℕ} 0 1 = cc in absurd (omega arith)
+    found-both true true k passes w q = let z : ◌≡◌ {A = ℕ} 0 1 = cc q in absurd (omega arith)
     found-both true true k (found v) w q = (refl, ap finding_in q)
-    found-both true false k a w q = let z : ◌≡◌ {A = ℕ} 0 1 = cc in absurd (omega arith)
-    found-both false y k a w q = let z : ◌≡◌ {A = ℕ} 0 1 = cc in absurd (omega arith)
+    found-both true false k a w q = let z : ◌≡◌ {A = ℕ} 0 1 = cc q in absurd (omega arith)
+    found-both false y k a w q = let z : ◌≡◌ {A = ℕ} 0 1 = cc q in absurd (omega arith)
 
     pub over-fits : r ≡ Over → fit ≡ false
     unfolding pass_of passed_of
@@ -91,9 +90,9 @@ or-passes : (a : Answer) → or_else a passes ≡ a
 or-passes passes = refl
 or-passes (found x) = refl
 
-either_first : (a : Asked) (x : Finding) (b : Answer) → or_else (answer_of (either a x)) b ≡ or_else (answer_of a) (found x)
-either_first told.Passes x b = refl
-either_first (told.Found y) x b = refl
+either_first : (a : Option Finding) (x : Finding) (b : Answer) → or_else (answer_of (either a x)) b ≡ or_else (answer_of a) (found x)
+either_first None x b = refl
+either_first (Some y) x b = refl
 
 module _ (b : Bool) (f : List ℕ) (rs : List Run) (ns : List ℕ) (ts : List tables.Track) (count : ℕ) where
   -- the tracks from the i-th on
@@ -104,16 +103,16 @@ module _ (b : Bool) (f : List ℕ) (rs : List Run) (ns : List ℕ) (ts : List ta
   tracks_from i = tracks_by b f rs (drop i (take count ns)) (drop i (take count ts))
 
   -- i tracks are passed, with so many samples and this first finding
-  pub record Passing (i sum : ℕ) (first : Asked) : Type 0 where
+  pub record Passing (i sum : ℕ) (first : Option Finding) : Type 0 where
     pub fits : fit_from i ≡ fit_from 0
     pub finds : or_else (answer_of first) (first_found (passed (tracks_from i))) ≡ first_found (passed (tracks_from 0))
-    pub counts : first ≡ told.Passes → sum + total (tracks_from i) ≡ total (tracks_from 0)
+    pub counts : first ≡ None → sum + total (tracks_from i) ≡ total (tracks_from 0)
     pub few : sum ≤ i * 2 ^ 32
 
-  pub passing : Passing 0 0 told.Passes
+  pub passing : Passing 0 0 None
   passing = record { fits = refl; finds = refl; counts = λ q. omega arith; few = omega arith }
 
-  module _ (i sum : ℕ) (first : Asked) (w : Passing i sum first) where
+  module _ (i sum : ℕ) (first : Option Finding) (w : Passing i sum first) where
     -- BEHIND THE LAST
     module _ (h : length ns ≡ 4) (k : length ts ≡ 4) (g : min count 4 ≤ i) where
       fit_none : fit_from i ≡ true
@@ -132,10 +131,10 @@ module _ (b : Bool) (f : List ℕ) (rs : List Run) (ns : List ℕ) (ts : List ta
       any_told : (x : Finding) → found x ≡ first_found (passed (tracks_from 0)) → Found x ≡ pass_all b f rs (take count ns) (take count ts)
       any_told x q = all_told (total (tracks_from 0)) (found x) refl q
 
-      pub ends-fine : first ≡ told.Passes → Fine sum ≡ pass_all b f rs (take count ns) (take count ts)
+      pub ends-fine : first ≡ None → Fine sum ≡ pass_all b f rs (take count ns) (take count ts)
       ends-fine q = all_told sum passes (omega (arith, w.counts q, ap total tracks-none)) (ap answer_of (sym q) ∙ finds-none)
 
-      pub ends_found : (x : Finding) → first ≡ told.Found x → Found x ≡ pass_all b f rs (take count ns) (take count ts)
+      pub ends_found : (x : Finding) → first ≡ Some x → Found x ≡ pass_all b f rs (take count ns) (take count ts)
       ends_found x q = any_told x (ap answer_of (sym q) ∙ finds-none)
 
     -- AT A TRACK
@@ -174,19 +173,19 @@ module _ (b : Bool) (f : List ℕ) (rs : List Run) (ns : List ℕ) (ts : List ta
             few = omega (arith, w.few, l);
           }
 
-      not-passes : (x : Finding) → either first x ≡ told.Passes → ⊥
+      not-passes : (x : Finding) → either first x ≡ None → ⊥
       not-passes x p = cases first p
         where
-          cases : (a : Asked) → either a x ≡ told.Passes → ⊥
-          cases told.Passes p = let z : ◌≡◌ {A = ℕ} 0 1 = cc in omega arith
-          cases (told.Found y) p = let z : ◌≡◌ {A = ℕ} 0 1 = cc in omega arith
+          cases : (a : Option Finding) → either a x ≡ None → ⊥
+          cases None p = let z : ◌≡◌ {A = ℕ} 0 1 = cc p in omega arith
+          cases (Some y) p = let z : ◌≡◌ {A = ℕ} 0 1 = cc p in omega arith
 
-      pub goes-found : (x : Finding) (a : Asked) → r ≡ Found x → a ≡ either first x → Passing (i + 1) sum a
+      pub goes-found : (x : Finding) (a : Option Finding) → r ≡ Found x → a ≡ either first x → Passing (i + 1) sum a
       goes-found x a q p =
           let (u, v) = found-fits b f rs (get_or ns i 0) (get_or ts i d) r e x q in
           record {
             fits = fits_on u;
-            finds = ap (λ (z : Asked). or_else (answer_of z) (first_found (passed (tracks_from (i + 1))))) p ∙ either_first first x (first_found (passed (tracks_from (i + 1))))
+            finds = ap (λ (z : Option Finding). or_else (answer_of z) (first_found (passed (tracks_from (i + 1))))) p ∙ either_first first x (first_found (passed (tracks_from (i + 1))))
                 ∙ ap (or_else (answer_of first)) (sym (found-more ∙ ap (λ (z : Answer). or_else z (first_found (passed (tracks_from (i + 1))))) v)) ∙ w.finds;
             counts = λ z. absurd (not-passes x (sym p ∙ z));
             few = omega (arith, w.few);

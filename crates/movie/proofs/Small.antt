@@ -1,4 +1,5 @@
 -- Whether there are rows, and how many tracks. Assumes nothing.
+use Rattle.std.specs.Prelude.{Option, Some, None}
 use Prim.Native.Nat.{ℕ, suc, ◌-◌, min}
 use mathlib.Core.Path.{◌≡◌, refl, sym, ap, ◌∙◌}
 use mathlib.Core.List.{List}
@@ -11,8 +12,6 @@ use Rattle.numbers.specs.Field.{when}
 use Rattle.tables.specs.Tables.{listed}
 use Rattle.mooftable.specs.Table.{row_at, row_of, rows_of, holds}
 use Rattle.mooftable.specs.declared.Moof.{Moof}
-use Rattle.mooftable.specs.declared.Found.{Found}
-use Rattle.mooftable.specs.declared.Found.TheVariants.{Is, Missing}
 use Rattle.movie.specs.Inside.{is_some}
 
 module _ (t : List ℕ) (n : ℕ) where
@@ -22,12 +21,12 @@ module _ (t : List ℕ) (n : ℕ) where
   pub none-asked : n ≡ 0 → false ≡ is_some (rows_of t n)
   none-asked e = sym (rows-by 0 (omega (arith, e)))
 
-  module _ (r : Found) (e : r ≡ row_of t 0) (more : n ≡ 0 → ⊥) where
-    is_row : Found → Bool
-    is_row (Is m) = true
-    is_row Missing = false
+  module _ (r : Option Moof) (e : r ≡ row_of t 0) (more : n ≡ 0 → ⊥) where
+    is_row : Option Moof → Bool
+    is_row (Some m) = true
+    is_row None = false
 
-    by-room : (b : Bool) → ltb 0 (holds t) ≡ b → (is_row (when b (Is (row_at t 0)) Missing) ≡ is_some (rows_of t n))
+    by-room : (b : Bool) → ltb 0 (holds t) ≡ b → (is_row (when b (Some (row_at t 0)) None) ≡ is_some (rows_of t n))
     unfolding is_row when
     by-room true h = sym (rows-by (suc (min n (holds t) - 1)) (omega (arith, ltb-true 0 (holds t) h, more)))
     by-room false h = sym (rows-by 0 (omega (arith, ltb-false 0 (holds t) h)))
@@ -35,11 +34,11 @@ module _ (t : List ℕ) (n : ℕ) where
     told : is_row r ≡ is_some (rows_of t n)
     told = ap is_row e ∙ by-room (ltb 0 (holds t)) refl
 
-    pub is-there : (m : Moof) → r ≡ Is m → true ≡ is_some (rows_of t n)
+    pub is-there : (m : Moof) → r ≡ Some m → true ≡ is_some (rows_of t n)
     unfolding is_row
     is-there m q = ap is_row (sym q) ∙ told
 
-    pub is-missing : r ≡ Missing → false ≡ is_some (rows_of t n)
+    pub is-missing : r ≡ None → false ≡ is_some (rows_of t n)
     unfolding is_row
     is-missing q = ap is_row (sym q) ∙ told
 

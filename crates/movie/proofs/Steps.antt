@@ -1,4 +1,5 @@
 -- The loops over tracks, track by track, and the sum over payloads. Assumes nothing.
+use Rattle.std.specs.Prelude.{Option, Some, None}
 use Prim.Native.Nat.{ℕ, ◌+◌, ◌-◌, ◌<◌, ◌≤◌, ◌^◌, min}
 use mathlib.Core.Path.{◌≡◌, refl, sym, ap, ap₂, ◌∙◌}
 use mathlib.Core.List.{List, [], ◌∷◌}
@@ -14,22 +15,19 @@ use Rattle.agree.specs.Agree.{agree_of}
 use Rattle.verdicts.specs.Findings.{Answer, passes, found, F1, asked, first_found, Span}
 use Rattle.verdicts.specs.Sweep.{bytes}
 use Rattle.verdicts.specs.declared.Finding.{Finding}
-use Rattle.verdicts.specs.declared.Asked.{Asked}
-use Rattle.verdicts.specs.declared.Asked.TheVariants as told
 use Rattle.movie.specs.Movie.{has_samples}
 use Rattle.movie.specs.Inside.{media_of, agreement, agreed}
-use Rattle.movie.specs.declared.Sum.TheVariants.{Is, Over}
 use Rattle.movie.proofs.Rows.{at_row, no_row}
 use Rattle.movie.proofs.Asked.{first_stops, first_goes}
 
 -- F1
 
 module _ (f : List ℕ) (n : ℕ) (t : Track) (b : Bool) (e : b ≡ agree_of f t) where
-  pub agrees : b ≡ true → told.Passes ≡ asked (agreement f n t)
+  pub agrees : b ≡ true → None ≡ asked (agreement f n t)
   unfolding agreement when
   agrees q = ap asked (sym (ap (λ (x : Bool). when x passes (found (F1 n))) (sym e ∙ q)))
 
-  pub differs : b ≡ false → told.Found (F1 n) ≡ asked (agreement f n t)
+  pub differs : b ≡ false → Some (F1 n) ≡ asked (agreement f n t)
   unfolding agreement when
   differs q = ap asked (sym (ap (λ (x : Bool). when x passes (found (F1 n))) (sym e ∙ q)))
 
@@ -39,10 +37,10 @@ module _ (f : List ℕ) (ns : List ℕ) (ts : List Track) (count : ℕ) where
   onward i = first_found (agreed f (drop i (take count ns)) (drop i (take count ts)))
 
   module _ (i : ℕ) where
-    pub agreed-none : length ns ≡ 4 → length ts ≡ 4 → min count 4 ≤ i → told.Passes ≡ asked (onward i)
+    pub agreed-none : length ns ≡ 4 → length ts ≡ 4 → min count 4 ≤ i → None ≡ asked (onward i)
     agreed-none h k g = sym (ap₂ (λ (x : List ℕ) (y : List Track). asked (first_found (agreed f x y))) (no_row ns count i g h) (no_row ts count i g k))
 
-    module _ (d : Track) (c : i < count) (h : i < length ns) (k : i < length ts) (r : Asked) (e : r ≡ asked (agreement f (get_or ns i 0) (get_or ts i d))) where
+    module _ (d : Track) (c : i < count) (h : i < length ns) (k : i < length ts) (r : Option Finding) (e : r ≡ asked (agreement f (get_or ns i 0) (get_or ts i d))) where
       rest : List Answer
       rest = agreed f (drop (i + 1) (take count ns)) (drop (i + 1) (take count ts))
 
@@ -50,10 +48,10 @@ module _ (f : List ℕ) (ns : List ℕ) (ts : List Track) (count : ℕ) where
       unfolding rest
       one_more = ap₂ (λ (x : List ℕ) (y : List Track). first_found (agreed f x y)) (at_row ns count i 0 c h) (at_row ts count i d c k)
 
-      pub agreed-stops : (x : Finding) → r ≡ told.Found x → told.Found x ≡ asked (onward i)
+      pub agreed-stops : (x : Finding) → r ≡ Some x → Some x ≡ asked (onward i)
       agreed-stops x q = first_stops (agreement f (get_or ns i 0) (get_or ts i d)) r e rest x q ∙ ap asked (sym one_more)
 
-      pub agreed-goes : r ≡ told.Passes → onward (i + 1) ≡ onward i
+      pub agreed-goes : r ≡ None → onward (i + 1) ≡ onward i
       unfolding rest
       agreed-goes q = first_goes (agreement f (get_or ns i 0) (get_or ts i d)) r e rest q ∙ sym one_more
 
@@ -80,14 +78,14 @@ module _ (ts : List Track) (count : ℕ) where
 -- THE MEDIA DATA
 
 module _ (m all : List Span) (sum : ℕ) (w : sum + bytes m ≡ bytes all) where
-  pub media-all : sum < 2 ^ 64 → m ≡ [] → Is sum ≡ media_of (bytes all)
+  pub media-all : sum < 2 ^ 64 → m ≡ [] → Some sum ≡ media_of (bytes all)
   unfolding media_of when
   media-all h e =
       let q : sum ≡ bytes all = omega (arith, w, ap bytes e) in
-      is_lt _ _ _ (bytes all) (2 ^ 64) (omega (arith, q, h)) (ap Is q)
+      is_lt _ _ _ (bytes all) (2 ^ 64) (omega (arith, q, h)) (ap Some q)
 
   module _ (c : Span) (l : List Span) (e : c ∷ l ≡ m) where
-    pub media-over : (2 ^ 64 - 1) - sum < c.to - c.from → sum < 2 ^ 64 → Over ≡ media_of (bytes all)
+    pub media-over : (2 ^ 64 - 1) - sum < c.to - c.from → sum < 2 ^ 64 → None ≡ media_of (bytes all)
     unfolding media_of when
     media-over h k = not-lt _ _ _ (bytes all) (2 ^ 64) (omega (arith, w, h, ap bytes e)) refl
 

@@ -1,14 +1,14 @@
 -- Worked examples of the definitions, computed: movies by their tracks, payloads, runs and moofs. Assumes nothing.
+use Rattle.std.specs.Prelude.{Ok, Err, None}
 use Prim.Native.Nat.{ℕ}
 use mathlib.Core.Path.{◌≡◌, refl}
 use mathlib.Core.List.{List, [], ◌∷◌, ◌++◌}
 use mathlib.Core.Bool.{true, false}
 use Rattle.numbers.specs.Number.{be, bytes}
-use Rattle.numbers.specs.Field.{refusal, field, when}
+use Rattle.numbers.specs.Field.{field, when}
+use Rattle.numbers.specs.declared.Refusal.TheVariants as refusal
 use Rattle.signed.specs.Signed.{signed}
-use Rattle.rows.specs.declared.Judged.TheVariants.{Fine, Wrong}
 use Rattle.tables.specs.Tables.{pair_at, group_at, offset_at, size_at}
-use Rattle.tables.specs.declared.Optional.TheVariants.{Absent}
 use Rattle.tables.specs.declared.Track as tables
 use Rattle.agree.specs.Agree.{agree_of}
 use Rattle.trun.specs.Trun.{optional}
@@ -38,32 +38,32 @@ file =
 abbrev of : ℕ → ℕ → tables.Track
 of n chunks = record {
   stts = record { at = 0; count = 1 };
-  ctts = Absent;
+  ctts = None;
   stsc = record { at = 8; count = 1 };
   stsz = record { at = 20; count = n; common = 0 };
   stco = record { at = 28; count = chunks; wide = false };
-  stss = Absent;
+  stss = None;
 }
 
 abbrev far : tables.Track
 far = record {
   stts = record { at = 0; count = 1 };
-  ctts = Absent;
+  ctts = None;
   stsc = record { at = 8; count = 1 };
   stsz = record { at = 20; count = 2; common = 0 };
   stco = record { at = 36; count = 2; wide = true };
-  stss = Absent;
+  stss = None;
 }
 
 -- no samples
 abbrev none : tables.Track
 none = record {
   stts = record { at = 0; count = 0 };
-  ctts = Absent;
+  ctts = None;
   stsc = record { at = 8; count = 0 };
   stsz = record { at = 20; count = 0; common = 0 };
   stco = record { at = 28; count = 0; wide = false };
-  stss = Absent;
+  stss = None;
 }
 
 -- a run of track 7: n samples of 5 bytes at 50 that last 10 each
@@ -112,25 +112,25 @@ by-runs-break = refl
 
 -- REFUSALS
 
-fine : refusal_in (movie_of file (span 50 55 ∷ []) (7 ∷ []) (of 2 2 ∷ []) [] []) ≡ Fine
+fine : refusal_in (movie_of file (span 50 55 ∷ []) (7 ∷ []) (of 2 2 ∷ []) [] []) ≡ (Ok tt)
 unfolding be bytes field when signed optional pair_at group_at offset_at size_at agree_of values.own_of values.duration_at values.size_at values.flags_by sample_at run_samples count_of mine gap_of sweep_from questions audit_of refusal_in judge_of
 fine = refl
 
 -- a sample whose end passes 2^64 - 1
-over : refusal_in (movie_of file [] (7 ∷ []) (far ∷ []) [] []) ≡ Wrong (refusal 9 0)
+over : refusal_in (movie_of file [] (7 ∷ []) (far ∷ []) [] []) ≡ Err refusal.Overflow
 unfolding be bytes field when signed optional pair_at group_at offset_at size_at agree_of values.own_of values.duration_at values.size_at values.flags_by sample_at run_samples count_of mine gap_of sweep_from questions audit_of refusal_in judge_of
 over = refl
 
 -- media bytes that have no 64-bit number
-too-many-bytes : refusal_in (movie_of [] (span 0 18446744073709551615 ∷ span 0 1 ∷ []) [] [] [] []) ≡ Wrong (refusal 9 0)
+too-many-bytes : refusal_in (movie_of [] (span 0 18446744073709551615 ∷ span 0 1 ∷ []) [] [] [] []) ≡ Err refusal.Overflow
 unfolding be bytes field when signed optional pair_at group_at offset_at size_at agree_of values.own_of values.duration_at values.size_at values.flags_by sample_at run_samples count_of mine gap_of sweep_from questions audit_of refusal_in judge_of
 too-many-bytes = refl
 
 -- a moof, and samples in the moov; 9 comes before, by the tables too, which otherwise say nothing in a fragmented file
-mixed : judge_of (movie_of file (span 50 55 ∷ []) (7 ∷ []) (of 2 2 ∷ []) [] (moof 100 1 ∷ [])) ≡ Refused (refusal 10 0)
+mixed : judge_of (movie_of file (span 50 55 ∷ []) (7 ∷ []) (of 2 2 ∷ []) [] (moof 100 1 ∷ [])) ≡ Refused refusal.Mixed
 unfolding be bytes field when signed optional pair_at group_at offset_at size_at agree_of values.own_of values.duration_at values.size_at values.flags_by sample_at run_samples count_of mine gap_of sweep_from questions audit_of refusal_in judge_of
 mixed = refl
 
-over_first : judge_of (movie_of file [] (7 ∷ []) (far ∷ []) [] (moof 100 1 ∷ [])) ≡ Refused (refusal 9 0)
+over_first : judge_of (movie_of file [] (7 ∷ []) (far ∷ []) [] (moof 100 1 ∷ [])) ≡ Refused refusal.Overflow
 unfolding be bytes field when signed optional pair_at group_at offset_at size_at agree_of values.own_of values.duration_at values.size_at values.flags_by sample_at run_samples count_of mine gap_of sweep_from questions audit_of refusal_in judge_of
 over_first = refl

@@ -1,5 +1,5 @@
 -- What the code tells on its way. Assumes nothing.
-use Rattle.std.specs.Prelude.{ℕ, ◌^◌, ◌≤◌, List, [], ◌∷◌, Bool, true, false, ltb}
+use Rattle.std.specs.Prelude.{ℕ, ◌^◌, ◌≤◌, List, [], ◌∷◌, Bool, true, false, ltb, Option, Some, None}
 use Rattle.numbers.specs.Field.{when}
 use Rattle.samples.specs.Lists.{all_held}
 use Rattle.tables.specs.declared.Track as tables
@@ -9,8 +9,6 @@ use Rattle.runs.specs.declared.Run.{Run}
 use Rattle.verdicts.specs.Findings.{Answer, passes, found, F1, first_found}
 use Rattle.verdicts.specs.Sweep.{total}
 use Rattle.verdicts.specs.declared.Finding.{Finding}
-use Rattle.verdicts.specs.declared.Asked.{Asked}
-use Rattle.verdicts.specs.declared.Asked.TheVariants as told
 use Rattle.verdicts.specs.Audit.{passed}
 use Rattle.passes.specs.Passed.{tell, passed_of}
 use Rattle.passes.specs.declared.Passed.{Passed}
@@ -20,12 +18,10 @@ use Rattle.verdicts.specs.declared.Audited.TheVariants as answer
 use Rattle.follows.specs.declared.Followed.{Followed}
 use Rattle.follows.specs.declared.Followed.TheVariants as follow
 use Rattle.movie.specs.Movie.{samples_by, tracks_by, samples_fit}
-use Rattle.movie.specs.declared.Sum.{Sum}
-use Rattle.movie.specs.declared.Sum.TheVariants.{Is, Over}
 
 -- a number of bytes, where it has 64 bits
-unfoldable pub media_of : ℕ → Sum
-media_of n = when (ltb n (2 ^ 64)) (Is n) Over
+unfoldable pub media_of : ℕ → Option ℕ
+media_of n = when (ltb n (2 ^ 64)) (Some n) None
 
 -- F1, of one track, and by track
 unfoldable pub agreement : List ℕ → ℕ → tables.Track → Answer
@@ -36,7 +32,7 @@ agreed f [] ts = []
 agreed f (n ∷ ns) [] = []
 agreed f (n ∷ ns) (t ∷ ts) = agreement f n t ∷ agreed f ns ts
 
--- 9, F2 and F3, of one track, and of all
+-- a sample that does not fit, F2 and F3, of one track, and of all
 unfoldable pub pass_of : Bool → List ℕ → List Run → ℕ → tables.Track → Passed
 pass_of b f rs n t = when (all_held (samples_of f t)) (passed_of n (samples_by b f t rs n)) pass.Over
 
@@ -55,14 +51,14 @@ is_over (pass.Fine k) = false
 is_over (pass.Found x) = false
 
 -- the first finding stays the first
-abbrev pub either : Asked → Finding → Asked
-either told.Passes x = told.Found x
-either (told.Found y) x = told.Found y
+abbrev pub either : Option Finding → Finding → Option Finding
+either None x = Some x
+either (Some y) x = Some y
 
-abbrev pub first_of : Passed → Asked
-first_of pass.Over = told.Passes
-first_of (pass.Fine k) = told.Passes
-first_of (pass.Found x) = told.Found x
+abbrev pub first_of : Passed → Option Finding
+first_of pass.Over = None
+first_of (pass.Fine k) = None
+first_of (pass.Found x) = Some x
 
 abbrev pub samples_in : Passed → ℕ
 samples_in pass.Over = 0
@@ -74,18 +70,18 @@ breaks follow.Over = true
 breaks follow.Passes = false
 breaks (follow.Found x) = false
 
-abbrev pub last_of : Followed → Asked
-last_of follow.Over = told.Passes
-last_of follow.Passes = told.Passes
-last_of (follow.Found x) = told.Found x
+abbrev pub last_of : Followed → Option Finding
+last_of follow.Over = None
+last_of follow.Passes = None
+last_of (follow.Found x) = Some x
 
-abbrev pub or_asked : Asked → Asked → Asked
-or_asked told.Passes b = b
-or_asked (told.Found x) b = told.Found x
+abbrev pub or_asked : Option Finding → Option Finding → Option Finding
+or_asked None b = b
+or_asked (Some x) b = Some x
 
-abbrev pub told_of : Asked → ℕ → ℕ → ℕ → Audited
-told_of told.Passes a b c = answer.Clean a b c
-told_of (told.Found x) a b c = answer.Found x
+abbrev pub told_of : Option Finding → ℕ → ℕ → ℕ → Audited
+told_of None a b c = answer.Clean a b c
+told_of (Some x) a b c = answer.Found x
 
 abbrev pub is_some : {A : Type 0} → List A → Bool
 is_some [] = false

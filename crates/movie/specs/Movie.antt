@@ -1,10 +1,9 @@
 -- A movie, as the boxes of a file tell it: its tracks, its media data and its fragments; why it is refused (01, Answers
 -- 9 and 10; A13, A15), and its audit. Assumes nothing.
-use Rattle.std.specs.Prelude.{ℕ, ◌^◌, List, [], ◌∷◌, Bool, true, false, ◌&&◌, ◌||◌, ltb}
-use Rattle.numbers.specs.Field.{when, refusal}
+use Rattle.std.specs.Prelude.{ℕ, ◌^◌, List, [], ◌∷◌, Bool, true, false, ◌&&◌, ◌||◌, ltb, Result, Ok, Err}
+use Rattle.numbers.specs.Field.{when}
+use Rattle.numbers.specs.declared.Refusal.TheVariants as refusal
 use Rattle.rows.specs.Judge.{settle}
-use Rattle.rows.specs.declared.Judged.{Judged}
-use Rattle.rows.specs.declared.Judged.TheVariants.{Fine, Wrong}
 use Rattle.samples.specs.Lists.{all_held}
 use Rattle.tables.specs.declared.Track as tables
 use Rattle.tables.specs.Samples.{samples_of}
@@ -19,6 +18,7 @@ use Rattle.verdicts.specs.declared.Audited.TheVariants.{Refused}
 use Rattle.fragments.specs.Samples.{samples_of_runs}
 use Rattle.samples.specs.declared.Sample.{Sample}
 use Rattle.follows.specs.Follows.{gaps_fit}
+use Rattle.numbers.specs.declared.Refusal.{Refusal}
 
 -- the bytes of the file; the payloads of its mdats; its tracks in the order of the moov, by their numbers and by their
 -- tables; the runs of its fragments, and its moofs, in the order of the file
@@ -71,12 +71,12 @@ abbrev pub has_samples : List tables.Track → Bool
 has_samples [] = false
 has_samples (t ∷ ts) = ltb 0 t.stsz.count || has_samples ts
 
--- 9, then 10: a moof, and samples in the moov
-unfoldable pub refusal_in : Movie → Judged
+-- a sum that does not fit; then a moof, and samples in the moov
+unfoldable pub refusal_in : Movie → Result (Unit {0}) Refusal
 refusal_in m =
     when (sums_fit m)
-    (when (is_fragmented m.moofs && has_samples m.tables) (Wrong (refusal 10 0)) Fine)
-    (Wrong (refusal 9 0))
+    (when (is_fragmented m.moofs && has_samples m.tables) (Err refusal.Mixed) (Ok tt))
+    (Err refusal.Overflow)
 
 -- THE AUDIT
 

@@ -1,4 +1,4 @@
-#![tactic(auto)]
+#![tactic(auto, unfolding(numbers::specs::Field::when, numbers::specs::Field::field))]
 // The audit of a movie: of its tracks, its media data and its fragments, as its boxes tell them.
 ghost use Rattle.std.specs.Prelude.{◌≡◌, ◌&&◌, ◌≤◌, min, take};
 ghost use Rattle.kin.specs.Kin.{boxes, track_limit};
@@ -6,10 +6,8 @@ ghost use Rattle.payloads.specs.Payloads.{payloads_from};
 ghost use Rattle.verdicts.specs.Findings.{asked, first_found};
 ghost use Rattle.verdicts.specs.Sweep.{bytes};
 ghost use Rattle.runtable.specs.Table.{rows_of};
-ghost use Rattle.numbers.specs.Field.{refusal};
 ghost use Rattle.mooftable.specs.Table as moof-rows;
 ghost use Rattle.follows.specs.Follows.{moofs_in};
-ghost use Rattle.verdicts.specs.declared.Audited.TheVariants.{Refused};
 ghost use Rattle.movie.specs.Movie.{movie_of, has_samples, judge_of};
 ghost use Rattle.movie.specs.Inside.{media_of, agreement, agreed, pass_of, pass_all, Few};
 ghost use Rattle.movie.specs.Inside.{is_some, is_over, either, first_of, samples_in, breaks, last_of, or_asked, told_of};
@@ -20,17 +18,10 @@ use numbers::Refusal;
 use passes::Passed;
 use payloads::Payload;
 use tables::Track;
-use verdicts::{Asked, Audited, Finding};
+use verdicts::{Audited, Finding};
 
 // The largest number.
 const LAST: u64 = 0xFFFF_FFFF_FFFF_FFFF;
-
-// The bytes of all media data, or that they are no 64-bit number.
-#[derive(Clone, Copy)]
-enum Sum {
-    Is(u64),
-    Over,
-}
 
 fn media(
     file: &[u8],
@@ -40,7 +31,7 @@ fn media(
     kinds: &[usize; 4096],
     parents: &[usize; 4096],
     placed: &[usize; 4096],
-) -> Sum
+) -> Option<u64>
     ensures { result ≡ media_of (bytes (payloads_from file.now (boxes starts.now sizes.now kinds.now parents.now placed.now) n 0)) }
 {
     let mut sum: u64 = 0;
@@ -48,12 +39,12 @@ fn media(
     loop {
         match payloads::next(file, n, i, starts, sizes, kinds, parents, placed) {
             Payload::End => {
-                return Sum::Is(sum);
+                return Some(sum);
             }
             Payload::At { from, to, row } => {
                 let more = (to - from) as u64;
                 if LAST - sum < more {
-                    return Sum::Over;
+                    return None;
                 }
                 sum += more;
                 i = row;
@@ -69,13 +60,13 @@ fn few(count: usize) -> usize
 }
 
 // F1, of one track.
-fn agreement(file: &[u8], track: Track, number: u32) -> Asked
+fn agreement(file: &[u8], track: Track, number: u32) -> Option<Finding>
     ensures { result ≡ asked (agreement file.now number track) }
 {
     if agree::tables(file, track) {
-        return Asked::Passes;
+        return None;
     }
-    Asked::Found(Finding {
+    Some(Finding {
         number: 1,
         track: number,
         sample: 0,
@@ -85,7 +76,7 @@ fn agreement(file: &[u8], track: Track, number: u32) -> Asked
 }
 
 // F1, by track.
-fn agreements(file: &[u8], numbers: [u32; 4], tracks: [Track; 4], count: usize) -> Asked
+fn agreements(file: &[u8], numbers: [u32; 4], tracks: [Track; 4], count: usize) -> Option<Finding>
     ensures { result ≡ asked (first_found (agreed file.now (take count numbers) (take count tracks))) }
 {
     let end = few(count);
@@ -93,15 +84,15 @@ fn agreements(file: &[u8], numbers: [u32; 4], tracks: [Track; 4], count: usize) 
     while i < end {
         let track = tracks[i];
         match agreement(file, track, numbers[i]) {
-            Asked::Found(x) => {
-                return Asked::Found(x);
+            Some(x) => {
+                return Some(x);
             }
-            Asked::Passes => {
+            None => {
                 i += 1;
             }
         }
     }
-    Asked::Passes
+    None
 }
 
 // Whether a track's tables have samples.
@@ -154,12 +145,12 @@ fn pass(
 }
 
 // The first finding stays the first.
-fn either(first: Asked, x: Finding) -> Asked
+fn either(first: Option<Finding>, x: Finding) -> Option<Finding>
     ensures { result ≡ either first x }
 {
     match first {
-        Asked::Passes => Asked::Found(x),
-        Asked::Found(y) => Asked::Found(y),
+        None => Some(x),
+        Some(y) => Some(y),
     }
 }
 
@@ -178,7 +169,7 @@ fn pass_all(
 {
     let end = few(count);
     let mut total: usize = 0;
-    let mut first = Asked::Passes;
+    let mut first = None;
     let mut i = 0;
     while i < end {
         let track = tracks[i];
@@ -197,8 +188,8 @@ fn pass_all(
         }
     }
     match first {
-        Asked::Passes => Passed::Fine(total),
-        Asked::Found(x) => Passed::Found(x),
+        None => Passed::Fine(total),
+        Some(x) => Passed::Found(x),
     }
 }
 
@@ -210,18 +201,18 @@ fn is_fragmented(moofs: &[u64], many: usize) -> bool
         return false;
     }
     match mooftable::row(moofs, 0) {
-        mooftable::Found::Is(_) => true,
-        mooftable::Found::Missing => false,
+        Some(_) => true,
+        None => false,
     }
 }
 
-fn first_of(passed: Passed) -> Asked
+fn first_of(passed: Passed) -> Option<Finding>
     ensures { result ≡ first_of passed }
 {
     match passed {
-        Passed::Over => Asked::Passes,
-        Passed::Fine(_) => Asked::Passes,
-        Passed::Found(x) => Asked::Found(x),
+        Passed::Over => None,
+        Passed::Fine(_) => None,
+        Passed::Found(x) => Some(x),
     }
 }
 
@@ -245,45 +236,36 @@ fn breaks(followed: Followed) -> bool
     }
 }
 
-fn last_of(followed: Followed) -> Asked
+fn last_of(followed: Followed) -> Option<Finding>
     ensures { result ≡ last_of followed }
 {
     match followed {
-        Followed::Over => Asked::Passes,
-        Followed::Passes => Asked::Passes,
-        Followed::Found(x) => Asked::Found(x),
+        Followed::Over => None,
+        Followed::Passes => None,
+        Followed::Found(x) => Some(x),
     }
 }
 
-fn or_else(first: Asked, second: Asked) -> Asked
+fn or_else(first: Option<Finding>, second: Option<Finding>) -> Option<Finding>
     ensures { result ≡ or_asked first second }
 {
     match first {
-        Asked::Passes => second,
-        Asked::Found(x) => Asked::Found(x),
+        None => second,
+        Some(x) => Some(x),
     }
 }
 
-fn refuse(number: u32) -> Audited
-    ensures { result ≡ Refused (refusal number 0) }
-{
-    Audited::Refused(Refusal {
-        number: number,
-        detail: 0,
-    })
-}
-
 // What the audit answers where nothing is refused: the first finding, or clean, with how much that is about.
-fn told(asked: Asked, tracks: usize, samples: usize, media: u64) -> Audited
+fn told(asked: Option<Finding>, tracks: usize, samples: usize, media: u64) -> Audited
     requires { tracks ≤ track_limit }
     ensures { result ≡ told_of asked tracks samples media }
 {
     match asked {
-        Asked::Found(x) => Audited::Found(x),
-        Asked::Passes => Audited::Clean {
+        Some(x) => Audited::Found(x),
+        None => Audited::Clean {
             tracks: tracks as u32,
             samples: samples as u64,
-            media: media,
+            media,
         },
     }
 }
@@ -311,18 +293,18 @@ pub fn judge(
     let fragmented = is_fragmented(moofs, many);
     let passed = pass_all(file, numbers, tracks, count, runs, rows, fragmented);
     if is_over(passed) {
-        return refuse(9);
+        return Audited::Refused(Refusal::Overflow);
     }
     let followed = follows::follow(file, runs, rows, moofs, many, numbers, count);
     if breaks(followed) {
-        return refuse(9);
+        return Audited::Refused(Refusal::Overflow);
     }
-    let Sum::Is(bytes) = media(file, n, starts, sizes, kinds, parents, placed) else {
-        return refuse(9);
+    let Some(bytes) = media(file, n, starts, sizes, kinds, parents, placed) else {
+        return Audited::Refused(Refusal::Overflow);
     };
     let mixed = fragmented & has_samples(tracks, count);
     if mixed {
-        return refuse(10);
+        return Audited::Refused(Refusal::Mixed);
     }
     let early = or_else(agreements(file, numbers, tracks, count), first_of(passed));
     let swept = sweeps::sweep(

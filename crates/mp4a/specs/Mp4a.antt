@@ -1,6 +1,6 @@
 -- The sample entry of MPEG-4 audio (AudioSampleEntry of version 0, ISO/IEC 14496-12, 12.2.3; MP4AudioSampleEntry,
 -- 14496-14, 5.6): an index, three numbers of the sound, and boxes, which are the rest of the box. Assumes nothing.
-use Rattle.std.specs.Prelude.{ℕ, List, [], ◌∷◌, get_or}
+use Rattle.std.specs.Prelude.{ℕ, List, [], ◌∷◌, get_or, Result}
 use Rattle.put.specs.Put.{Wrote}
 use Rattle.layout.specs.Read.{read_of, answer, rest_of}
 use Rattle.layout.specs.Write.{write_of, padded, slotted}
@@ -8,8 +8,7 @@ use Rattle.layout.specs.declared.Field.{Field}
 use Rattle.layout.specs.declared.Field.TheVariants.{Number, Reserved}
 use Rattle.children.specs.Children.{child_of}
 use Rattle.mp4a.specs.declared.Mp4a.{Mp4a}
-use Rattle.mp4a.specs.declared.Found.{Found}
-use Rattle.mp4a.specs.declared.Found.TheVariants.{Is, Refused}
+use Rattle.numbers.specs.declared.Refusal.{Refusal}
 
 abbrev pub kind : ℕ
 kind = 0x6d703461
@@ -24,8 +23,8 @@ from v = record { data_reference_index = get_or v 0 0; channelcount = get_or v 1
 abbrev pub to : Mp4a → List ℕ
 to m = slotted (m.data_reference_index ∷ m.channelcount ∷ m.samplesize ∷ m.samplerate ∷ [])
 
-abbrev pub mp4a_of : List ℕ → Found
-mp4a_of part = answer Is Refused from (read_of kind fields part)
+abbrev pub mp4a_of : List ℕ → Result Mp4a Refusal
+mp4a_of part = answer from (read_of kind fields part)
 
 abbrev pub children_of : List ℕ → List ℕ
 children_of part = rest_of (read_of kind fields part) part

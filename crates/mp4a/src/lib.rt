@@ -1,4 +1,4 @@
-#![tactic(auto)]
+#![tactic(auto, unfolding(numbers::specs::Field::when, numbers::specs::Field::field))]
 // The sample entry of MPEG-4 audio (AudioSampleEntry of version 0, ISO/IEC 14496-12, 12.2.3; MP4AudioSampleEntry,
 // 14496-14, 5.6): an index, three numbers of the sound, and boxes, which are the rest of the box.
 ghost use Rattle.std.specs.Prelude.{◌≡◌};
@@ -7,7 +7,6 @@ ghost use Rattle.mp4a.specs.Mp4a.{mp4a_of, children_of, esds_of, mp4a_in};
 
 use layout::Field;
 use numbers::Refusal;
-use put::Put;
 
 // The rate has 16 bits before the point, and 16 behind it.
 #[derive(Clone, Copy)]
@@ -16,12 +15,6 @@ pub struct Mp4a {
     pub channelcount: u16,
     pub samplesize: u16,
     pub samplerate: u32,
-}
-
-#[derive(Clone, Copy)]
-pub enum Found {
-    Is(Mp4a),
-    Refused(Refusal),
 }
 
 pub const KIND: u32 = 0x6d703461;
@@ -37,18 +30,12 @@ pub const ROW: [Field; 8] = [
     Field::Number(4),
 ];
 
-pub fn read(part: &[u8]) -> Found
+pub fn read(part: &[u8]) -> Result<Mp4a, Refusal>
     ensures { result ≡ mp4a_of part.now }
 {
-    let got = short::read::by(part, KIND, ROW);
-    if got.number != 0 {
-        return Found::Refused(Refusal {
-            number: got.number,
-            detail: got.place,
-        });
-    }
+    let got = short::read::by(part, KIND, ROW)?;
     let v = got.values;
-    Found::Is(Mp4a {
+    Ok(Mp4a {
         data_reference_index: v[0] as u16,
         channelcount: v[1] as u16,
         samplesize: v[2] as u16,
@@ -72,7 +59,7 @@ pub fn esds(part: &[u8]) -> &[u8]
     boxparts::first_box(boxes, 0x65736473)
 }
 
-pub fn write(mp4a: Mp4a, children: &[u8], out: &mut [u8]) -> Put
+pub fn write(mp4a: Mp4a, children: &[u8], out: &mut [u8]) -> Result<usize, Refusal>
     ensures { wrote result out.new ≡ mp4a_in mp4a children.now out.old }
 {
     let v = [

@@ -1,4 +1,5 @@
 -- The boxes of a parent, and what is needed of them. Assumes nothing.
+use Rattle.std.specs.Prelude.{Some, None}
 use mathlib.Core.Path.{◌≡◌, refl, sym, ap, ◌∙◌}
 use mathlib.Core.List.{List}
 use mathlib.Core.Bool.{Bool, true, false}
@@ -12,7 +13,6 @@ use Rattle.places.specs.Visit.{box_limit}
 use Rattle.kin.specs.Kin.{Boxes}
 use Rattle.inside.specs.Inside.{in_parent, child}
 use Rattle.needed.specs.Needed.{each, needed, track_of, extends, trex_of, needed_trex, missing}
-use Rattle.needed.specs.declared.Missing.TheVariants.{Nothing, Box}
 use Rattle.needed.proofs.Firsts.{first-none, first_next, first-at, first-end, row_next, row_at}
 
 -- THE TREX OF A TRACK
@@ -87,8 +87,8 @@ module _ (s : List ℕ) (t : Boxes) (n p rest head track r : ℕ) (e : head ≡ 
 -- THE ANSWER
 
 module _ (k r : ℕ) (e : r ≡ k) where
-  pub told-nothing : r ≡ 0 → Nothing ≡ missing k
+  pub told-nothing : r ≡ 0 → None ≡ missing k
   told-nothing h = is_eq _ _ _ k 0 (sym e ∙ h) refl
 
-  pub told-box : (r ≡ 0 → ⊥) → Box r ≡ missing k
-  told-box o = is_ne _ _ _ k 0 (λ h. o (e ∙ h)) (ap Box e)
+  pub told-box : (r ≡ 0 → ⊥) → Some r ≡ missing k
+  told-box o = is_ne _ _ _ k 0 (λ h. o (e ∙ h)) (ap Some e)

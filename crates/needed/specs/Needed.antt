@@ -3,7 +3,7 @@
 -- the four letters of the first box that is missing, as the number that they are (A12), or 0. A box counts where it
 -- stands in its place (A2); of two in one parent the first counts, and what would stand in a missing box is not asked
 -- for. Assumes nothing.
-use Rattle.std.specs.Prelude.{ℕ, ◌+◌, ◌-◌, min, List, Bool, ◌&&◌, eqb}
+use Rattle.std.specs.Prelude.{ℕ, ◌+◌, ◌-◌, min, List, Bool, ◌&&◌, eqb, Option, Some, None}
 use Rattle.numbers.specs.Field.{when}
 use Rattle.places.specs.Kinds.{ftyp, moov, moof, mvhd, trak, trex, tkhd, mdia, mdhd, hdlr, minf, dinf, stbl, stsd, stts, stsc, stsz, stco, co64, mfhd, traf, tfhd, tfdt, trun}
 use Rattle.places.specs.Visit.{box_limit}
@@ -12,8 +12,6 @@ use Rattle.kin.specs.Kin.{Boxes, stands}
 use Rattle.inside.specs.Inside.{in_parent, child}
 use Rattle.contents.specs.Held.{part_of, number_in, is}
 use Rattle.needed.specs.First.{or_else, first, row_of}
-use Rattle.needed.specs.declared.Missing.{Missing}
-use Rattle.needed.specs.declared.Missing.TheVariants.{Nothing, Box}
 
 -- what the first of the boxes of this type in the parent p lacks that lacks something
 unfoldable pub each : Boxes → ℕ → ℕ → ℕ → (ℕ → ℕ) → ℕ
@@ -78,9 +76,9 @@ in_file s t n =
     (needed t n mvhd (child t n moov 0)
     (or_else (each t n trak (child t n moov 0) (in_trak t n)) (each t n moof 0 (in_moof s t n)))))
 
-abbrev pub missing : ℕ → Missing
-missing kind = when (eqb kind 0) Nothing (Box kind)
+abbrev pub missing : ℕ → Option ℕ
+missing kind = when (eqb kind 0) None (Some kind)
 
 -- the first needed box that is missing among n that are recorded; behind the last row of the tables there is no box
-abbrev pub missing_of : List ℕ → Boxes → ℕ → Missing
+abbrev pub missing_of : List ℕ → Boxes → ℕ → Option ℕ
 missing_of s t n = missing (in_file s t (min n box_limit))

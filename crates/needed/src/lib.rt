@@ -1,4 +1,4 @@
-#![tactic(auto)]
+#![tactic(auto, unfolding(numbers::specs::Field::when, numbers::specs::Field::field))]
 // The first needed box that a file lacks, by the boxes that are recorded in the tables.
 ghost use Rattle.std.specs.Prelude.{◌≡◌, ◌≤◌, min};
 ghost use Rattle.places.specs.Visit.{box_limit};
@@ -11,13 +11,6 @@ use places::kinds;
 pub mod moofs;
 pub mod parent;
 pub mod traks;
-
-// The four letters of a box, as the number that they are.
-#[derive(Clone, Copy)]
-pub enum Missing {
-    Nothing,
-    Box(u32),
-}
 
 fn or_else(a: u32, b: u32) -> u32
     ensures { result ≡ or_else a b }
@@ -61,12 +54,12 @@ pub fn first_missing(
     kinds: &[usize; 4096],
     parents: &[usize; 4096],
     placed: &[usize; 4096],
-) -> Missing
+) -> Option<u32>
     ensures { result ≡ missing_of s.now (boxes starts.now sizes.now kinds.now parents.now placed.now) n }
 {
     let kind = in_file(s, parent::rows(n), starts, sizes, kinds, parents, placed);
     if kind == 0 {
-        return Missing::Nothing;
+        return None;
     }
-    Missing::Box(kind)
+    Some(kind)
 }

@@ -10,7 +10,6 @@ ghost use Rattle.inside.specs.Inside.{in_parent};
 ghost use Rattle.needed.specs.Needed.{each, track_of, extends, trex_of, in_traf, in_moof};
 
 use crate::parent;
-use keys::Key;
 use places::kinds;
 
 // The track that the tfhd in row j names, or 0.
@@ -27,8 +26,8 @@ fn track_of(
     ensures { result ≡ track_of s.now (boxes starts.now sizes.now kinds.now parents.now placed.now) j }
 {
     match keys::find(kinds::TFHD, parts::part(s, starts[j], sizes[j])) {
-        Key::Absent => 0,
-        Key::Is(x, _) => x,
+        None => 0,
+        Some((x, _)) => x,
     }
 }
 
@@ -61,8 +60,8 @@ fn names(
     ensures { result ≡ is (key_of trex (part_of s.now (boxes starts.now sizes.now kinds.now parents.now placed.now) j)) track }
 {
     match keys::find(kinds::TREX, parts::part(s, starts[j], sizes[j])) {
-        Key::Absent => false,
-        Key::Is(x, _) => x == track,
+        None => false,
+        Some((x, _)) => x == track,
     }
 }
 

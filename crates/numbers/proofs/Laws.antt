@@ -8,6 +8,7 @@ use native.Mathlib.Omega.{arith}
 use lib.ListN.{length, get_or, take, drop, length-append}
 use lib.Pow.{pow-add}
 use lib.Seq.{get_or-append_seam, drop-cons, take_all}
+use Rattle.std.proofs.lemmas.List.{get_or-take, get_or-drop}
 use Rattle.numbers.specs.Number.{be, bytes}
 
 -- READING
@@ -139,3 +140,18 @@ bytes-join (suc m) n a b h =
     ap (λ k. (a * 256 ^ n + b) / k) p ∙ sym (div-div-eq-div-mul (a * 256 ^ n + b) (256 ^ n) (256 ^ m)) ∙ ap (λ k. k / 256 ^ m) q in
     ap (λ k. bytes k (a * 256 ^ n + b)) (suc-add m n)
     ∙ ap₂ (λ (x : ℕ) (l : List ℕ). (x % 256) ∷ l) d (bytes-join m n a b h)
+
+-- one byte more at the low end, as a loop says it
+pub snoc_at : (w i j : ℕ) (s : List ℕ) (at : ℕ) → j ≡ at + i → w ≡ i + 1 → be w s at ≡ be i s at * 256 + get_or s j 0
+snoc_at w i j s at e f = ap (λ k. be k s at) (f ∙ add-one i) ∙ snoc i s at ∙ ap (λ k. be i s at * 256 + get_or s k 0) (sym e)
+
+-- a number of i bytes and one byte more stays in 8 bytes
+pub room_for_more : (i n b : ℕ) → n < 256 ^ i → i < 8 → b < 256 → (n * 256 + b < 2 ^ 64) × (n * 256 + b < 256 ^ (i + 1))
+room_for_more i n b h k g =
+    let u : 256 ^ i ≤ 256 ^ 7 = under i 7 (omega arith) in
+    let v : n * 256 + b < 256 ^ suc i = grows i n b h g in
+    (omega arith, rw add-one v)
+
+-- a byte of a part is a byte of the whole
+pub part_byte : (w at i : ℕ) (s : List ℕ) → i < w → get_or (take w (drop at s)) i 0 ≡ get_or s (at + i) 0
+part_byte w at i s h = get_or-take w (drop at s) i 0 h ∙ get_or-drop at s i 0

@@ -1,5 +1,6 @@
 -- What is told of a track is what the audit judges: where a file opens as a movie, the track at a place in the moov is the
 -- track at that place in the movie. Assumes nothing.
+use Rattle.std.specs.Prelude.{Result, Ok, Err}
 use Prim.Native.Nat.{ℕ, zero, suc, ◌-◌, ◌<◌, min}
 use mathlib.Core.Path.{◌≡◌, refl, sym, ap, ap₂, ◌∙◌}
 use mathlib.Core.List.{List, [], ◌∷◌}
@@ -10,19 +11,14 @@ use lib.Seq.{get_or-take}
 use Rattle.numbers.specs.declared.Refusal.{Refusal}
 use Rattle.numbers.proofs.Chain.{is_ne}
 use Rattle.rows.specs.Judge.{settle}
-use Rattle.rows.specs.declared.Judged.{Judged}
-use Rattle.rows.specs.declared.Judged.TheVariants.{Fine, Wrong}
 use Rattle.places.specs.Visit.{box_limit}
 use Rattle.places.specs.Kinds as kinds
 use Rattle.samples.specs.Records.{output, list_of}
 use Rattle.samples.specs.declared.Sample.{Sample}
-use Rattle.samples.specs.declared.Listed.TheVariants.{Done, Refused}
 use Rattle.kin.specs.Kin.{Boxes}
 use Rattle.inside.specs.Inside.{child}
 use Rattle.contents.specs.Held.{part_of}
 use Rattle.tables.specs.declared.Track as tables
-use Rattle.stbl.specs.declared.Found.{Found}
-use Rattle.stbl.specs.declared.Found.TheVariants as found
 use Rattle.traks.specs.Traks.{traks_of, number_of, tables_of}
 use Rattle.runs.specs.declared.Run.{Run}
 use Rattle.moofs.specs.Moofs.{All, all, refused, Fragment, fragments_of, all_runs}
@@ -43,7 +39,7 @@ use Rattle.opened.proofs.Place.{rows-some}
 
 -- what is known of it, and what its movie is made of
 record Parts (f : List ℕ) (m : Movie) : Type 0 where
-  pub fine : refusal_of f (boxes_of f) (scanned_of f) ≡ Fine
+  pub fine : refusal_of f (boxes_of f) (scanned_of f) ≡ (Ok tt)
   pub fragments : List Fragment
   pub fragments-are : fragments_of f (boxes_of f) (count_of f) ≡ all fragments
   pub tables : List tables.Track
@@ -55,29 +51,29 @@ module _ (f : List ℕ) (m : Movie) where
   made frs ts = movie_of f (payloads_from f (boxes_of f) (count_of f) 0) (numbers_of f (boxes_of f) (count_of f) (first_traks (boxes_of f) (count_of f))) ts (all_runs frs) (moofs_of f frs)
 
   never : {A : Type 0} (q : Refusal) → is_not q ≡ is m → A
-  never q z = let y : ◌≡◌ {A = ℕ} 0 1 = cc in absurd (omega arith)
+  never q z = let y : ◌≡◌ {A = ℕ} 0 1 = cc z in absurd (omega arith)
 
   movie_or : Opened → Movie
   movie_or (is x) = x
   movie_or (is_not q) = m
 
-  settled : (x : Movie) (j : Judged) → settle (is x) is_not j ≡ is m → m ≡ x
+  settled : (x : Movie) (j : Result (Unit {0}) Refusal) → settle (is x) is_not j ≡ is m → m ≡ x
   unfolding movie_or
-  settled x Fine z = sym (ap movie_or z)
-  settled x (Wrong q) z = never q z
+  settled x (Ok tt) z = sym (ap movie_or z)
+  settled x (Err q) z = never q z
 
   parts : open_of f ≡ is m → Parts f m
   unfolding open_of movie_in
   parts e =
       cases (refusal_of f (boxes_of f) (scanned_of f)) refl (fragments_of f (boxes_of f) (count_of f)) refl (tables_in f (boxes_of f) (count_of f) (first_traks (boxes_of f) (count_of f))) refl e
     where
-      cases : (j : Judged) → refusal_of f (boxes_of f) (scanned_of f) ≡ j → (a : All Fragment) → fragments_of f (boxes_of f) (count_of f) ≡ a
+      cases : (j : Result (Unit {0}) Refusal) → refusal_of f (boxes_of f) (scanned_of f) ≡ j → (a : All Fragment) → fragments_of f (boxes_of f) (count_of f) ≡ a
           → (b : All tables.Track) → tables_in f (boxes_of f) (count_of f) (first_traks (boxes_of f) (count_of f)) ≡ b
           → settle (unless_refused (with_all a (λ frs. with_all b (λ ts. is (made frs ts))))) is_not j ≡ is m → Parts f m
-      cases (Wrong q) ej a ea b eb z = never q z
-      cases Fine ej (refused q) ea b eb z = never q z
-      cases Fine ej (all frs) ea (refused q) eb z = never q z
-      cases Fine ej (all frs) ea (all ts) eb z =
+      cases (Err q) ej a ea b eb z = never q z
+      cases (Ok tt) ej (refused q) ea b eb z = never q z
+      cases (Ok tt) ej (all frs) ea (refused q) eb z = never q z
+      cases (Ok tt) ej (all frs) ea (all ts) eb z =
           record { fine = ej; fragments = frs; fragments-are = ea; tables = ts; tables-are = eb; made_of = settled (made frs ts) (refusal_in (made frs ts)) z }
 
 -- A TRACK OF ITS MOVIE
@@ -92,7 +88,7 @@ module _ (f : List ℕ) (t : Boxes) (n : ℕ) (b : Bool) (rs : List Run) where
     pub tables : tables.Track
     pub there : place < length rows
     pub at : get_or rows place 0 ≡ row
-    pub reads : tables_of f t n row ≡ found.Is tables
+    pub reads : tables_of f t n row ≡ Ok tables
     pub named : number_of f t n row ≡ number_in tr
     pub are : samples_by b f tables rs (number_of f t n row) ≡ samples_of tr
 
@@ -105,7 +101,7 @@ module _ (f : List ℕ) (t : Boxes) (n : ℕ) (b : Bool) (rs : List Run) where
   head_or d (x ∷ xs) = x
 
   no-track : {A : Type 0} (tr : Track) (rest : List Track) → [] ≡ tr ∷ rest → A
-  no-track tr rest z = let y : ◌≡◌ {A = ℕ} 0 1 = cc in absurd (omega arith)
+  no-track tr rest z = let y : ◌≡◌ {A = ℕ} 0 1 = cc z in absurd (omega arith)
 
   dropped : (place : ℕ) → ◌≡◌ {A = List Track} (drop place []) []
   dropped zero = refl
@@ -118,17 +114,17 @@ module _ (f : List ℕ) (t : Boxes) (n : ℕ) (b : Bool) (rs : List Run) where
       cases (λ us eu i k. told ps us eu i tr rest k) (tables_of f t n p) refl (tables_in f t n ps) refl e place h
     where
       cut : {A : Type 0} (q : Refusal) → ◌≡◌ {A = All tables.Track} (refused q) (all ts) → A
-      cut q z = let y : ◌≡◌ {A = ℕ} 0 1 = cc in absurd (omega arith)
+      cut q z = let y : ◌≡◌ {A = ℕ} 0 1 = cc z in absurd (omega arith)
 
       cases : ((us : List tables.Track) → tables_in f t n ps ≡ all us → (i : ℕ) → drop i (tracks_by b f rs (numbers_of f t n ps) us) ≡ tr ∷ rest → Told ps i tr)
-          → (x : Found) → tables_of f t n p ≡ x → (us : All tables.Track) → tables_in f t n ps ≡ us → with_tables x us ≡ all ts → (i : ℕ)
+          → (x : Result tables.Track Refusal) → tables_of f t n p ≡ x → (us : All tables.Track) → tables_in f t n ps ≡ us → with_tables x us ≡ all ts → (i : ℕ)
           → drop i (tracks_by b f rs (number_of f t n p ∷ numbers_of f t n ps) ts) ≡ tr ∷ rest → Told (p ∷ ps) i tr
-      cases on (found.Refused q) ex us eu z i k = cut q z
-      cases on (found.Is y) ex (refused q) eu z i k = cut q z
-      cases on (found.Is y) ex (all us) eu z zero k =
+      cases on (Err q) ex us eu z i k = cut q z
+      cases on (Ok y) ex (refused q) eu z i k = cut q z
+      cases on (Ok y) ex (all us) eu z zero k =
           let w = ap (λ (vs : List tables.Track). tracks_by b f rs (number_of f t n p ∷ numbers_of f t n ps) vs) (ap list_in z) ∙ k in
           record { row = p; tables = y; there = omega arith; at = refl; reads = ex; named = ap (λ (l : List Track). number_in (head_or tr l)) w; are = ap (λ (l : List Track). samples_of (head_or tr l)) w }
-      cases on (found.Is y) ex (all us) eu z (suc i) k =
+      cases on (Ok y) ex (all us) eu z (suc i) k =
           let w = on us eu i (ap (λ (vs : List tables.Track). drop (suc i) (tracks_by b f rs (number_of f t n p ∷ numbers_of f t n ps) vs)) (ap list_in z) ∙ k) in
           record { row = w.row; tables = w.tables; there = omega (arith, w.there); at = w.at; reads = w.reads; named = w.named; are = w.are }
 
@@ -165,14 +161,14 @@ module _ (f : List ℕ) (m : Movie) (e : open_of f ≡ is m) (place : ℕ) (tr :
       let t : Boxes = boxes_of f in
       let n : ℕ = count_of f in
       let row : ℕ = trak_at t n place in
-      ap (settle (tell_in f t n place q o (fragments_of f t n)) (λ r. output (Refused r) o)) opens.fine
+      ap (settle (tell_in f t n place q o (fragments_of f t n)) (λ r. output (Err r) o)) opens.fine
       ∙ ap (tell_in f t n place q o) opens.fragments-are
       ∙ sym (is_ne _ _ _ row 0 (λ z. omega (arith, row-some, z)) refl)
       ∙ ap (by_tables f t n runs fragmented row q o) (ap (tables_of f t n) row_is ∙ tells.reads)
       ∙ ap₂ (λ (k : ℕ) (l : List Sample). answer_of q k (part_of f t (row - 1)) l o) (ap (number_of f t n) row_is ∙ tells.named) (ap (λ (r : ℕ). samples_by fragmented f tells.tables runs (number_of f t n r)) row_is ∙ tells.are)
 
   -- so the number and the list are those of the track that is judged, and a sample is one of its samples
-  pub number-told : (o : List ℕ) → tell_of f place question.Number o ≡ output (Done (number_in tr)) o
+  pub number-told : (o : List ℕ) → tell_of f place question.Number o ≡ output (Ok (number_in tr)) o
   unfolding answer_of
   number-told o = track-told question.Number o
 

@@ -40,7 +40,7 @@ module _ (row left : ℕ) (b : Bool) (e : b ≡ goes_on row left) where
   one_more q = cases (eqb row 0) (eqb left 0) refl refl (sym e ∙ q)
     where
       never : false ≡ true → ⊥
-      never z = let y : ◌≡◌ {A = ℕ} 0 1 = cc in omega arith
+      never z = let y : ◌≡◌ {A = ℕ} 0 1 = cc z in omega arith
 
       cases : (x y : Bool) → eqb row 0 ≡ x → eqb left 0 ≡ y → when x false (not y) ≡ true → (row ≡ 0 → ⊥) × (0 < left)
       cases true y h k z = absurd (never z)
@@ -52,7 +52,7 @@ module _ (row left : ℕ) (b : Bool) (e : b ≡ goes_on row left) where
   no_more q = cases (eqb row 0) (eqb left 0) refl refl (sym e ∙ q)
     where
       never : true ≡ false → ⊥
-      never z = let y : ◌≡◌ {A = ℕ} 0 1 = cc in omega arith
+      never z = let y : ◌≡◌ {A = ℕ} 0 1 = cc z in omega arith
 
       cases : (x y : Bool) → eqb row 0 ≡ x → eqb left 0 ≡ y → when x false (not y) ≡ false → (row ≡ 0) ⊎ (left ≡ 0)
       cases true y h k z = inl (eqb-true row 0 h)

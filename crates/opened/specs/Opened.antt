@@ -1,22 +1,16 @@
 -- What is told of one track of a file (document 01, Scope: sample lookup and listing, track summary), by its place in the
--- moov, counted from 0: its number, its samples, one of them, or its figures. First the file is refused by its boxes (1 to 8:
--- A1), then by its fragments (9: A13). A refusal leaves the buffer as it was. Assumes nothing.
-use Rattle.std.specs.Prelude.{ℕ, ◌-◌, List, Bool, get_or, eqb}
-use Rattle.numbers.specs.Field.{refusal, when}
-use Rattle.numbers.specs.declared.U32.{U32}
-use Rattle.numbers.specs.declared.U32.TheVariants as u32
-use Rattle.numbers.specs.declared.U64.{U64}
-use Rattle.numbers.specs.declared.U64.TheVariants as u64
+-- moov, counted from 0: its number, its samples, one of them, or its figures. First the file is refused by its boxes (A1),
+-- then by its fragments (A13). A refusal leaves the buffer as it was. Assumes nothing.
+use Rattle.std.specs.Prelude.{ℕ, ◌-◌, List, Bool, get_or, eqb, Result, Ok, Err}
+use Rattle.numbers.specs.Field.{when}
+use Rattle.numbers.specs.declared.Refusal.TheVariants as refusal
 use Rattle.rows.specs.Judge.{settle}
 use Rattle.places.specs.Kinds.{trak}
 use Rattle.samples.specs.Records.{Output, output, list_of}
 use Rattle.samples.specs.declared.Sample.{Sample}
-use Rattle.samples.specs.declared.Listed.TheVariants.{Done, Refused}
 use Rattle.kin.specs.Kin.{Boxes}
 use Rattle.contents.specs.Held.{part_of}
 use Rattle.opening.specs.Opening.{refusal_of}
-use Rattle.stbl.specs.declared.Found.{Found}
-use Rattle.stbl.specs.declared.Found.TheVariants as found
 use Rattle.traks.specs.Traks.{traks_of, number_of, tables_of}
 use Rattle.runs.specs.declared.Run.{Run}
 use Rattle.moofs.specs.Moofs.{All, all, refused, Fragment, fragments_of, all_runs}
@@ -29,21 +23,22 @@ use Rattle.figures.specs.Words.{figures_of}
 use Rattle.audit.specs.Boxes.{scanned_of, boxes_of, count_of as rows_of}
 use Rattle.opened.specs.declared.Question.{Question}
 use Rattle.opened.specs.declared.Question.TheVariants as question
+use Rattle.numbers.specs.declared.Refusal.{Refusal}
 
 -- THE ANSWER
 
 -- the figures of a track by the bytes of its trak, how many samples it has, and the bytes of these
-abbrev pub by_total : List ℕ → ℕ → List ℕ → U64 → Output
-by_total bytes count o (u64.Is total) = figures_of bytes count total o
-by_total bytes count o (u64.Refused q) = output (Refused q) o
+abbrev pub by_total : List ℕ → ℕ → List ℕ → Result ℕ Refusal → Output
+by_total bytes count o (Ok total) = figures_of bytes count total o
+by_total bytes count o (Err q) = output (Err q) o
 
-abbrev pub by_count : List ℕ → List Sample → List ℕ → U32 → Output
-by_count bytes l o (u32.Is count) = by_total bytes count o (total_of l)
-by_count bytes l o (u32.Refused q) = output (Refused q) o
+abbrev pub by_count : List ℕ → List Sample → List ℕ → Result ℕ Refusal → Output
+by_count bytes l o (Ok count) = by_total bytes count o (total_of l)
+by_count bytes l o (Err q) = output (Err q) o
 
 -- of a track with this number and these samples, whose trak has these bytes
 unfoldable pub answer_of : Question → ℕ → List ℕ → List Sample → List ℕ → Output
-answer_of question.Number number bytes l o = output (Done number) o
+answer_of question.Number number bytes l o = output (Ok number) o
 answer_of question.List number bytes l o = list_of l o
 answer_of (question.Sample n) number bytes l o = one_of l n o
 answer_of question.Summary number bytes l o = by_count bytes l o (count_of l)
@@ -58,24 +53,24 @@ abbrev pub source_of : Track → ℕ → Bool → Source
 source_of tables number fragmented = record { tables = tables; number = number; fragmented = fragmented }
 
 -- by its tables, and by the runs where the file is fragmented
-abbrev pub by_tables : List ℕ → Boxes → ℕ → List Run → Bool → ℕ → Question → List ℕ → Found → Output
-by_tables f t n rs fragmented row q o (found.Is tables) =
+abbrev pub by_tables : List ℕ → Boxes → ℕ → List Run → Bool → ℕ → Question → List ℕ → Result Track Refusal → Output
+by_tables f t n rs fragmented row q o (Ok tables) =
     answer_of q (number_of f t n row) (part_of f t (row - 1)) (samples_from f (source_of tables (number_of f t n row) fragmented) rs) o
-by_tables f t n rs fragmented row q o (found.Refused r) = output (Refused r) o
+by_tables f t n rs fragmented row q o (Err r) = output (Err r) o
 
--- 5 where there is no such track
+-- a trak is missing where there is no such track
 unfoldable pub by_trak : List ℕ → Boxes → ℕ → List Run → Bool → ℕ → Question → List ℕ → Output
 by_trak f t n rs fragmented row q o =
-    when (eqb row 0) (output (Refused (refusal 5 trak)) o) (by_tables f t n rs fragmented row q o (tables_of f t n row))
+    when (eqb row 0) (output (Err (refusal.Missing trak)) o) (by_tables f t n rs fragmented row q o (tables_of f t n row))
 
 -- THE FILE
 
 -- by its fragments; a file with a moof is fragmented
 unfoldable pub tell_in : List ℕ → Boxes → ℕ → ℕ → Question → List ℕ → All Fragment → Output
 tell_in f t n place q o (all frs) = by_trak f t n (all_runs frs) (is_fragmented (moofs_of f frs)) (trak_at t n place) q o
-tell_in f t n place q o (refused r) = output (Refused r) o
+tell_in f t n place q o (refused r) = output (Err r) o
 
 unfoldable pub tell_of : List ℕ → ℕ → Question → List ℕ → Output
 tell_of f place q o =
-    settle (tell_in f (boxes_of f) (rows_of f) place q o (fragments_of f (boxes_of f) (rows_of f))) (λ r. output (Refused r) o)
+    settle (tell_in f (boxes_of f) (rows_of f) place q o (fragments_of f (boxes_of f) (rows_of f))) (λ r. output (Err r) o)
     (refusal_of f (boxes_of f) (scanned_of f))

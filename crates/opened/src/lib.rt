@@ -1,4 +1,4 @@
-#![tactic(auto)]
+#![tactic(auto, unfolding(numbers::specs::Field::when, numbers::specs::Field::field))]
 // What is told of one track of a file, from the file's bytes: its number, its samples, one of them, or its figures.
 ghost use Rattle.std.specs.Prelude.{◌≡◌, ◌<◌, ◌≤◌};
 ghost use Rattle.kin.specs.Kin.{boxes};
@@ -11,12 +11,8 @@ ghost use Rattle.tracksamples.specs.TrackSamples.{samples_from, count_of};
 ghost use Rattle.opened.specs.Opened.{trak_at, by_count, answer_of, by_tables, by_trak, tell_in, tell_of};
 ghost use Rattle.opened.specs.Inside.{goes_on};
 
-use moofs::Filled;
-use numbers::{Refusal, U32, U64};
+use numbers::Refusal;
 use places::kinds;
-use rows::Judged;
-use samples::Listed;
-use stbl::Found;
 use tracksamples::Source;
 use tree::Scanned;
 
@@ -37,16 +33,12 @@ fn summary(
     rows: usize,
     trak: &[u8],
     out: &mut [u64],
-) -> Listed
+) -> Result<usize, Refusal>
     ensures { output result out.new ≡ by_count trak.now (samples_from file.now source (rows_of runs.now rows)) out.old (count_of (samples_from file.now source (rows_of runs.now rows))) }
 {
-    match tracksamples::count(file, source, runs, rows) {
-        U32::Refused(first) => Listed::Refused(first),
-        U32::Is(count) => match tracksamples::total(file, source, runs, rows) {
-            U64::Refused(second) => Listed::Refused(second),
-            U64::Is(total) => figures::of(trak, count, total, out),
-        },
-    }
+    let count = tracksamples::count(file, source, runs, rows)?;
+    let total = tracksamples::total(file, source, runs, rows)?;
+    figures::of(trak, count, total, out)
 }
 
 fn answer(
@@ -57,11 +49,11 @@ fn answer(
     trak: &[u8],
     question: Question,
     out: &mut [u64],
-) -> Listed
+) -> Result<usize, Refusal>
     ensures { output result out.new ≡ answer_of question source.number trak.now (samples_from file.now source (rows_of runs.now rows)) out.old }
 {
     match question {
-        Question::Number => Listed::Done(source.number as usize),
+        Question::Number => Ok(source.number as usize),
         Question::List => tracksamples::list(file, source, runs, rows, out),
         Question::Sample(number) => tracksamples::sample(file, source, runs, rows, number, out),
         Question::Summary => summary(file, source, runs, rows, trak, out),
@@ -114,29 +106,25 @@ fn by_tables(
     fragmented: bool,
     question: Question,
     out: &mut [u64],
-) -> Listed
+) -> Result<usize, Refusal>
     requires { (0 < trak) × (trak ≤ 4096) }
     ensures { output result out.new ≡ by_tables file.now (boxes starts.now sizes.now kinds.now parents.now placed.now) n (rows_of runs.now rows) fragmented trak question out.old (tables_of file.now (boxes starts.now sizes.now kinds.now parents.now placed.now) n trak) }
 {
-    match traks::tables(file, trak, n, starts, sizes, kinds, parents, placed) {
-        Found::Refused(q) => Listed::Refused(q),
-        Found::Is(tables) => {
-            let number = traks::number(file, trak, n, starts, sizes, kinds, parents, placed);
-            answer(
-                file,
-                Source {
-                    tables,
-                    number,
-                    fragmented,
-                },
-                runs,
-                rows,
-                parts::part(file, starts[trak - 1], sizes[trak - 1]),
-                question,
-                out,
-            )
-        }
-    }
+    let tables = traks::tables(file, trak, n, starts, sizes, kinds, parents, placed)?;
+    let number = traks::number(file, trak, n, starts, sizes, kinds, parents, placed);
+    answer(
+        file,
+        Source {
+            tables,
+            number,
+            fragmented,
+        },
+        runs,
+        rows,
+        parts::part(file, starts[trak - 1], sizes[trak - 1]),
+        question,
+        out,
+    )
 }
 
 // The answer of the trak at a place.
@@ -154,15 +142,12 @@ fn by_trak(
     fragmented: bool,
     question: Question,
     out: &mut [u64],
-) -> Listed
+) -> Result<usize, Refusal>
     ensures { output result out.new ≡ by_trak file.now (boxes starts.now sizes.now kinds.now parents.now placed.now) n (rows_of runs.now rows) fragmented (trak_at (boxes starts.now sizes.now kinds.now parents.now placed.now) n place) question out.old }
 {
     let trak = trak_at(place, n, starts, sizes, kinds, parents, placed);
     if trak == 0 {
-        return Listed::Refused(Refusal {
-            number: 5,
-            detail: kinds::TRAK as usize,
-        });
+        return Err(Refusal::Missing(kinds::TRAK));
     }
     by_tables(
         file, trak, n, starts, sizes, kinds, parents, placed, runs, rows, fragmented, question, out,
@@ -181,34 +166,29 @@ fn by_fragments(
     placed: &[usize; 4096],
     question: Question,
     out: &mut [u64],
-) -> Listed
+) -> Result<usize, Refusal>
     ensures { output result out.new ≡ tell_in file.now (boxes starts.now sizes.now kinds.now parents.now placed.now) n place question out.old (fragments_of file.now (boxes starts.now sizes.now kinds.now parents.now placed.now) n) }
 {
     let mut runs = [0u64; 49152];
     let mut moofs = [0u64; 12288];
-    match moofs::fill(
+    let filled = moofs::fill(
         file, n, starts, sizes, kinds, parents, placed, &mut runs, &mut moofs,
-    ) {
-        Filled::Refused(q) => Listed::Refused(q),
-        Filled::Are {
-            runs: rows,
-            moofs: many,
-        } => by_trak(
-            file,
-            place,
-            n,
-            starts,
-            sizes,
-            kinds,
-            parents,
-            placed,
-            &runs,
-            rows,
-            0 < many,
-            question,
-            out,
-        ),
-    }
+    )?;
+    by_trak(
+        file,
+        place,
+        n,
+        starts,
+        sizes,
+        kinds,
+        parents,
+        placed,
+        &runs,
+        filled.runs,
+        0 < filled.moofs,
+        question,
+        out,
+    )
 }
 
 fn count_in(scanned: Scanned) -> usize
@@ -221,9 +201,14 @@ fn count_in(scanned: Scanned) -> usize
 }
 
 // The answer to a question about the track at a place in the moov, counted from 0, in lent words; or the words as they
-// were, and why the file is refused by its boxes or its fragments, 5 with `trak` where there is no such track, or what
+// were, and why the file is refused by its boxes or its fragments, a missing `trak` where there is no such track, or what
 // is refused of the answer itself.
-pub fn tell(file: &[u8], place: usize, question: Question, out: &mut [u64]) -> Listed
+pub fn tell(
+    file: &[u8],
+    place: usize,
+    question: Question,
+    out: &mut [u64],
+) -> Result<usize, Refusal>
     ensures { output result out.new ≡ tell_of file.now place question out.old }
 {
     let mut starts = [0usize; 4096];
@@ -241,19 +226,17 @@ pub fn tell(file: &[u8], place: usize, question: Question, out: &mut [u64]) -> L
         &mut depths,
         &mut placed,
     );
-    match opening::refusal(file, scanned, &starts, &sizes, &kinds, &parents, &placed) {
-        Judged::Wrong(q) => Listed::Refused(q),
-        Judged::Fine => by_fragments(
-            file,
-            place,
-            count_in(scanned),
-            &starts,
-            &sizes,
-            &kinds,
-            &parents,
-            &placed,
-            question,
-            out,
-        ),
-    }
+    opening::refusal(file, scanned, &starts, &sizes, &kinds, &parents, &placed)?;
+    by_fragments(
+        file,
+        place,
+        count_in(scanned),
+        &starts,
+        &sizes,
+        &kinds,
+        &parents,
+        &placed,
+        question,
+        out,
+    )
 }

@@ -1,4 +1,4 @@
-#![tactic(auto)]
+#![tactic(auto, unfolding(numbers::specs::Field::when, numbers::specs::Field::field))]
 // Why a file is refused by its boxes, which are recorded in the tables.
 ghost use Rattle.std.specs.Prelude.{◌≡◌, min};
 ghost use Rattle.places.specs.Visit.{box_limit};
@@ -6,9 +6,7 @@ ghost use Rattle.kin.specs.Kin.{boxes};
 ghost use Rattle.needed.specs.Needed.{missing_of};
 ghost use Rattle.opening.specs.Opening.{content_fault, lacking, recorded, rest_of, refusal_of};
 
-use needed::Missing;
 use numbers::Refusal;
-use rows::Judged;
 use tree::Scanned;
 
 fn rows(n: usize) -> usize
@@ -26,22 +24,16 @@ fn content_fault(
     kinds: &[usize; 4096],
     parents: &[usize; 4096],
     placed: &[usize; 4096],
-) -> Judged
+) -> Result<(), Refusal>
     ensures { result ≡ content_fault s.now (boxes starts.now sizes.now kinds.now parents.now placed.now) n }
 {
     let end = rows(n);
     let mut i = 0;
     while i < end {
-        match contents::fault(s, n, i, starts, sizes, kinds, parents, placed) {
-            Judged::Wrong(q) => {
-                return Judged::Wrong(q);
-            }
-            Judged::Fine => {
-                i = i + 1;
-            }
-        }
+        contents::fault(s, n, i, starts, sizes, kinds, parents, placed)?;
+        i = i + 1;
     }
-    Judged::Fine
+    Ok(())
 }
 
 // What is missing, as a refusal.
@@ -53,15 +45,12 @@ fn lacks(
     kinds: &[usize; 4096],
     parents: &[usize; 4096],
     placed: &[usize; 4096],
-) -> Judged
+) -> Result<(), Refusal>
     ensures { result ≡ lacking (missing_of s.now (boxes starts.now sizes.now kinds.now parents.now placed.now) n) }
 {
     match needed::first_missing(s, n, starts, sizes, kinds, parents, placed) {
-        Missing::Nothing => Judged::Fine,
-        Missing::Box(kind) => Judged::Wrong(Refusal {
-            number: 5,
-            detail: kind as usize,
-        }),
+        None => Ok(()),
+        Some(kind) => Err(Refusal::Missing(kind)),
     }
 }
 
@@ -83,12 +72,12 @@ fn rest(
     kinds: &[usize; 4096],
     parents: &[usize; 4096],
     placed: &[usize; 4096],
-) -> Judged
+) -> Result<(), Refusal>
     ensures { result ≡ rest_of s.now (boxes starts.now sizes.now kinds.now parents.now placed.now) scanned }
 {
     match scanned {
         Scanned::Whole(n) => lacks(s, n, starts, sizes, kinds, parents, placed),
-        Scanned::Fault(_, q) => Judged::Wrong(q),
+        Scanned::Fault(_, q) => Err(q),
     }
 }
 
@@ -101,12 +90,10 @@ pub fn refusal(
     kinds: &[usize; 4096],
     parents: &[usize; 4096],
     placed: &[usize; 4096],
-) -> Judged
+) -> Result<(), Refusal>
     ensures { result ≡ refusal_of s.now (boxes starts.now sizes.now kinds.now parents.now placed.now) scanned }
 {
     let n = recorded(scanned);
-    match content_fault(s, n, starts, sizes, kinds, parents, placed) {
-        Judged::Wrong(q) => Judged::Wrong(q),
-        Judged::Fine => rest(s, scanned, starts, sizes, kinds, parents, placed),
-    }
+    content_fault(s, n, starts, sizes, kinds, parents, placed)?;
+    rest(s, scanned, starts, sizes, kinds, parents, placed)
 }

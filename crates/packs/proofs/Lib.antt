@@ -1,4 +1,3 @@
-mod Cases
 pub mod Laws
 mod Unique
 mod Vectors

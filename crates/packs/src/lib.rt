@@ -1,9 +1,7 @@
-#![tactic(auto)]
+#![tactic(auto, unfolding(numbers::specs::Field::when, numbers::specs::Field::field))]
 // Packs: items one behind the other, each a length in four bytes, the highest first, and as many bytes.
 ghost use Rattle.std.specs.Prelude.{◌≡◌};
 ghost use Rattle.packs.specs.Packs.{item_of};
-
-use numbers::U32;
 
 // Where an item's bytes begin, and how many they are; or that there is no length, or that the bytes are not all there.
 #[derive(Clone, Copy)]
@@ -17,7 +15,7 @@ pub enum Item {
 pub fn item_at(pack: &[u8], at: usize) -> Item
     ensures { result ≡ item_of pack.now at }
 {
-    let U32::Is(n) = numbers::u32_at(pack, at) else {
+    let Ok(n) = numbers::read::<u32>(pack, at) else {
         return Item::End;
     };
     let from = at + 4;

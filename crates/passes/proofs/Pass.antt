@@ -1,5 +1,6 @@
 -- The first finding of F2 and F3, by the first size that is 0 and the first duration before the last that is 0; and what
 -- the tables of a track say of both. Assumes nothing.
+use Rattle.std.specs.Prelude.{Option, Some, None}
 use Prim.Native.Nat.{ℕ, zero, suc, ◌+◌, ◌-◌, ◌≤◌, ◌<◌}
 use mathlib.Core.Path.{◌≡◌, refl, sym, ap, ap₂, ◌∙◌}
 use mathlib.Core.List.{List, [], ◌∷◌}
@@ -17,8 +18,6 @@ use Rattle.tables.specs.Tables.{list_from, listed, values_of, pairs, groups, chu
 use Rattle.tables.specs.Samples.{place, rest, past_of, zipped, samples_of}
 use Rattle.tables.specs.declared.Track.{Track}
 use Rattle.lists.specs.Count.{count_of}
-use Rattle.lists.specs.declared.Counted.{Counted}
-use Rattle.lists.specs.declared.Counted.TheVariants as counted
 use Rattle.lists.proofs.Laws.{few, told, told_over}
 use Rattle.verdicts.specs.Findings.{Answer, passes, found, first_found, claim, F2, F3}
 use Rattle.verdicts.specs.Audit.{sized, lasting, passed_in}
@@ -205,11 +204,11 @@ module _ (t : ℕ) (l : List Sample) where
   unfolding passed_of
   pass-by n a h e = by-true _ _ _ (all_held l) h.0 (ap₂ (λ (x : ℕ) (y : Answer). tell x y) h.1 e)
 
-module _ (f : List ℕ) (track : Track) (t : ℕ) (r : Counted) (er : r ≡ count_of (samples_of f track)) where
-  pub pass-over : r ≡ counted.Over → Over ≡ passed_of t (samples_of f track)
+module _ (f : List ℕ) (track : Track) (t : ℕ) (r : Option ℕ) (er : r ≡ count_of (samples_of f track)) where
+  pub pass-over : r ≡ None → Over ≡ passed_of t (samples_of f track)
   pass-over q = pass-not t (samples_of f track) (told_over (samples_of f track) r er q)
 
-  module _ (n : ℕ) (q : r ≡ counted.Is n) where
+  module _ (n : ℕ) (q : r ≡ Some n) where
     fit : (all_held (samples_of f track) ≡ true) × (n ≡ length (samples_of f track))
     fit = told (samples_of f track) r n er q
 

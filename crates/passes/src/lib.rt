@@ -1,4 +1,4 @@
-#![tactic(auto)]
+#![tactic(auto, unfolding(numbers::specs::Field::when, numbers::specs::Field::field))]
 // The audit's pass over the samples of a track with tables: whether each of them fits, then F2 and F3, sample by sample.
 // No sample is visited: sizes are read where stsz lists them, and entries of stts are passed over whole.
 ghost use Rattle.std.specs.Prelude.{◌≡◌, take};
@@ -6,11 +6,10 @@ ghost use Rattle.tables.specs.Tables.{listed, values_of, pairs, size_at};
 ghost use Rattle.tables.specs.Samples.{samples_of};
 ghost use Rattle.passes.specs.Passed.{passed_of, of_sample, before_zero};
 
-use lists::Counted;
 use tables::{Sizes, Table, Track};
 use verdicts::Finding;
 
-// What the pass over a track's samples tells. Over: one of them does not fit (refusal 9). Fine: F2 and F3 find nothing in
+// What the pass over a track's samples tells. Over: one of them does not fit. Fine: F2 and F3 find nothing in
 // so many.
 #[derive(Clone, Copy)]
 pub enum Passed {
@@ -24,9 +23,9 @@ pub fn finding(number: u32, track: u32, sample: u32) -> Finding
     ensures { result ≡ of_sample number track sample }
 {
     Finding {
-        number: number,
-        track: track,
-        sample: sample,
+        number,
+        track,
+        sample,
         position: 0,
         gap: 0,
     }
@@ -80,7 +79,7 @@ fn before_idle(file: &[u8], t: Table, n: u32) -> u32
 pub fn tables(file: &[u8], track: Track, number: u32) -> Passed
     ensures { result ≡ passed_of number (samples_of file.now track) }
 {
-    let Counted::Is(n) = lists::count(file, track) else {
+    let Some(n) = lists::count(file, track) else {
         return Passed::Over;
     };
     if n == 0 {

@@ -1,4 +1,4 @@
-#![tactic(auto)]
+#![tactic(auto, unfolding(numbers::specs::Field::when, numbers::specs::Field::field))]
 // The media data of a file: the payloads of its mdats, by the boxes that are recorded in the tables.
 ghost use Rattle.std.specs.Prelude.{◌≡◌, false, ◌&&◌, ◌<◌, ◌+◌, min, leb, ltb};
 ghost use Rattle.numbers.specs.Field.{when};

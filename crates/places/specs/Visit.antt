@@ -1,19 +1,17 @@
 -- One box of a row of boxes: the limits at its header, its place, and the row of boxes in it. Assumes nothing.
-use Rattle.std.specs.Prelude.{ℕ, ◌+◌, ◌-◌, List, Bool, true, false, ◌&&◌, length, take, drop, ltb, leb, eqb}
-use Rattle.numbers.specs.Field.{refusal, when, or_zero}
+use Rattle.std.specs.Prelude.{ℕ, ◌+◌, ◌-◌, List, Bool, true, false, ◌&&◌, length, take, drop, ltb, leb, eqb, Result, Ok, Err}
+use Rattle.numbers.specs.Field.{when, or_zero}
+use Rattle.numbers.specs.Refusals.{detail}
+use Rattle.numbers.specs.declared.Refusal.TheVariants as refusal
 use Rattle.numbers.specs.declared.Refusal.{Refusal}
 use Rattle.boxes.specs.Header.{header_of}
 use Rattle.boxes.specs.declared.header.Header.{Header}
-use Rattle.boxes.specs.declared.header.Found.{Found}
-use Rattle.boxes.specs.declared.header.Found.TheVariants as found
 use Rattle.places.specs.Kinds.{mp4a}
 use Rattle.places.specs.Places.{places, listed, held_of}
 use Rattle.places.specs.declared.table.Inside.{Inside}
 use Rattle.places.specs.declared.table.Inside.TheVariants.{Nothing, Boxes, Counted}
 use Rattle.places.specs.declared.Node.{Node}
 use Rattle.places.specs.declared.Row.{Row}
-use Rattle.places.specs.declared.Visited.{Visited}
-use Rattle.places.specs.declared.Visited.TheVariants as visited
 
 -- the deepest level, a box at the top being at 1; and the most headers that are read (document 01, Limits)
 abbrev pub depth_limit : ℕ
@@ -22,14 +20,14 @@ depth_limit = 10
 abbrev pub box_limit : ℕ
 box_limit = 4096
 
--- at a box that starts at `at`: no level is left (3), or no row in the tables (4)
-abbrev pub limited : ℕ → ℕ → ℕ → Found → Found
-limited at left count on = when (eqb left 0) (found.Refused (refusal 3 at)) (when (leb box_limit count) (found.Refused (refusal 4 at)) on)
+-- at a box that starts at `at`: no level is left, or no row in the tables
+abbrev pub limited : ℕ → ℕ → ℕ → Result Header Refusal → Result Header Refusal
+limited at left count on = when (eqb left 0) (Err (refusal.Depth at)) (when (leb box_limit count) (Err (refusal.Limit at)) on)
 
 -- a header's own fault at the box's first byte comes before the limits, one further on after them (A5)
-abbrev pub admitted : ℕ → ℕ → ℕ → Found → Found
-admitted at left count (found.Is h) = limited at left count (found.Is h)
-admitted at left count (found.Refused q) = when (eqb q.detail at) (found.Refused q) (limited at left count (found.Refused q))
+abbrev pub admitted : ℕ → ℕ → ℕ → Result Header Refusal → Result Header Refusal
+admitted at left count (Ok h) = limited at left count (Ok h)
+admitted at left count (Err q) = when (eqb (detail q) at) (Err q) (limited at left count (Err q))
 
 -- an mp4a entry of a version other than 0 is QuickTime's and not read (A24); the version stands 8 bytes into its content
 abbrev pub own_entry : ℕ → List ℕ → Bool
@@ -63,12 +61,12 @@ row_of first content me kind placed (Boxes skip) = row (start_of first content s
 row_of first content me kind placed (Counted skip) = row (start_of first content skip) (or_zero 4 content 4) true me kind placed
 
 -- a box that is admitted as the count-th: what is recorded of it, and the row in it
-abbrev pub seen : List ℕ → ℕ → ℕ → Row → ℕ → Found → Visited
-seen s at left row count (found.Is h) =
+abbrev pub seen : List ℕ → ℕ → ℕ → Row → ℕ → Result Header Refusal → Result (Node × Row) Refusal
+seen s at left row count (Ok h) =
     let content = content_of s (at + h.length) (at + h.size) in
     let placed = placed_in row h content in
-    visited.Is (node_of at h left row placed) (row_of (at + h.length) content (count + 1) h.kind placed (held_of h.kind placed))
-seen s at left row count (found.Refused q) = visited.Refused q
+    Ok (node_of at h left row placed, row_of (at + h.length) content (count + 1) h.kind placed (held_of h.kind placed))
+seen s at left row count (Err q) = Err q
 
-abbrev pub visit_of : List ℕ → ℕ → ℕ → Row → ℕ → Visited
+abbrev pub visit_of : List ℕ → ℕ → ℕ → Row → ℕ → Result (Node × Row) Refusal
 visit_of s at left row count = seen s at left row count (admitted at left count (header_of s at (eqb row.parent 0)))

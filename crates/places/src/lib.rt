@@ -1,13 +1,13 @@
-#![tactic(auto)]
+#![tactic(auto, unfolding(numbers::specs::Field::when, numbers::specs::Field::field))]
 // One box of a row: its header, the limits, whether it stands in its place, and the row of boxes in it.
-ghost use Rattle.std.specs.Prelude.{◌≡◌, ◌&&◌, ◌+◌, ◌-◌, ◌≤◌, ◌<◌, length};
+ghost use Rattle.std.specs.Prelude.{◌≡◌, ◌&&◌, ◌+◌, ◌-◌, ◌≤◌, ◌<◌, length, Ok};
 ghost use Rattle.numbers.specs.Field.{or_zero};
 ghost use Rattle.places.specs.Places.{held_of};
 ghost use Rattle.places.specs.Visit.{depth_limit, box_limit, limited, admitted, own_entry, start_of, row_of, visit_of, seen};
 
 use crate::table::Inside;
-use boxes::header::{Found, Header};
-use numbers::{Refusal, U16, U32};
+use boxes::header::Header;
+use numbers::Refusal;
 
 pub mod kinds;
 pub mod table;
@@ -41,39 +41,37 @@ pub struct Row {
     pub placed: bool,
 }
 
-#[derive(Clone, Copy)]
-pub enum Visited {
-    Is(Node, Row),
-    Refused(Refusal),
-}
-
 // The limits, at a box that starts at `at`.
-fn limit(found: Found, at: usize, left: usize, count: usize) -> Found
+fn limit(
+    found: Result<Header, Refusal>,
+    at: usize,
+    left: usize,
+    count: usize,
+) -> Result<Header, Refusal>
     ensures { result ≡ limited at left count found }
 {
     if left == 0 {
-        return Found::Refused(Refusal {
-            number: 3,
-            detail: at,
-        });
+        return Err(Refusal::Depth(at));
     }
     if BOXES <= count {
-        return Found::Refused(Refusal {
-            number: 4,
-            detail: at,
-        });
+        return Err(Refusal::Limit(at));
     }
     found
 }
 
 // The first fault in file order, and at one position the smallest number.
-fn admit(found: Found, at: usize, left: usize, count: usize) -> Found
+fn admit(
+    found: Result<Header, Refusal>,
+    at: usize,
+    left: usize,
+    count: usize,
+) -> Result<Header, Refusal>
     ensures { result ≡ admitted at left count found }
 {
     match found {
-        Found::Is(_) => limit(found, at, left, count),
-        Found::Refused(q) => {
-            if q.detail == at {
+        Ok(_) => limit(found, at, left, count),
+        Err(q) => {
+            if q.detail() == at {
                 return found;
             }
             limit(found, at, left, count)
@@ -84,7 +82,7 @@ fn admit(found: Found, at: usize, left: usize, count: usize) -> Found
 fn version_of(content: &[u8]) -> u16
     ensures { result ≡ or_zero 2 content.now 8 }
 {
-    let U16::Is(version) = numbers::u16_at(content, 8) else {
+    let Ok(version) = numbers::read::<u16>(content, 8) else {
         return 0;
     };
     version
@@ -93,7 +91,7 @@ fn version_of(content: &[u8]) -> u16
 fn count_of(content: &[u8]) -> u32
     ensures { result ≡ or_zero 4 content.now 4 }
 {
-    let U32::Is(count) = numbers::u32_at(content, 4) else {
+    let Ok(count) = numbers::read::<u32>(content, 4) else {
         return 0;
     };
     count
@@ -131,48 +129,55 @@ fn row_of(first: usize, content: &[u8], me: usize, kind: u32, placed: bool) -> R
             entries: 0,
             counted: true,
             parent: me,
-            kind: kind,
-            placed: placed,
+            kind,
+            placed,
         },
         Inside::Boxes(skip) => Row {
             at: start_of(first, content, skip),
             entries: content.len(),
             counted: false,
             parent: me,
-            kind: kind,
-            placed: placed,
+            kind,
+            placed,
         },
         Inside::Counted(skip) => Row {
             at: start_of(first, content, skip),
             entries: count_of(content) as usize,
             counted: true,
             parent: me,
-            kind: kind,
-            placed: placed,
+            kind,
+            placed,
         },
     }
 }
 
 // What is recorded of a box whose header was read, and the row of boxes in it.
-fn look(s: &[u8], at: usize, left: usize, row: Row, count: usize, h: Header) -> Visited
+fn look(
+    s: &[u8],
+    at: usize,
+    left: usize,
+    row: Row,
+    count: usize,
+    h: Header,
+) -> Result<(Node, Row), Refusal>
     requires { (at + h.size ≤ length s.now) × (h.length ≤ h.size) × (count < box_limit) }
-    ensures { result ≡ seen s.now at left row count (Found.Is h) }
+    ensures { result ≡ seen s.now at left row count (Ok h) }
 {
     let first = at + h.length;
     let end = at + h.size;
     let content = &s[first..end];
     let placed = row.placed & table::belongs(row.kind, h.kind) & own_entry(h.kind, content);
-    Visited::Is(
+    Ok((
         Node {
             start: at,
             size: h.size,
             kind: h.kind,
             parent: row.parent,
             depth: depth_of(left),
-            placed: placed,
+            placed,
         },
         row_of(first, content, count + 1, h.kind, placed),
-    )
+    ))
 }
 
 // How deep a box stands that has `left` levels from itself down.
@@ -183,13 +188,16 @@ fn depth_of(left: usize) -> usize
 }
 
 // The box at `at` in a row, where `left` levels are left and `count` boxes are recorded.
-pub fn visit(s: &[u8], at: usize, left: usize, row: Row, count: usize) -> Visited
+pub fn visit(
+    s: &[u8],
+    at: usize,
+    left: usize,
+    row: Row,
+    count: usize,
+) -> Result<(Node, Row), Refusal>
     ensures { result ≡ visit_of s.now at left row count }
 {
     let top = row.parent == 0;
-    let found = admit(boxes::header::read(s, at, top), at, left, count);
-    match found {
-        Found::Is(h) => look(s, at, left, row, count, h),
-        Found::Refused(q) => Visited::Refused(q),
-    }
+    let h = admit(boxes::header::read(s, at, top), at, left, count)?;
+    look(s, at, left, row, count, h)
 }

@@ -87,9 +87,9 @@ fn print_tree(rt: &impl Print, s: &[u8]) {
             print_boxes(rt, n, &depths, &kinds, &starts, &sizes, &placed);
             print_number(rt, n);
             text(rt, b" boxes, then refusal ");
-            print_number(rt, refusal.number as usize);
+            print_number(rt, refusal.code() as usize);
             text(rt, b" at ");
-            print_number(rt, refusal.detail);
+            print_number(rt, refusal.detail());
             text(rt, b"\n");
         }
     }

@@ -1,4 +1,4 @@
-#![tactic(auto)]
+#![tactic(auto, unfolding(numbers::specs::Field::when, numbers::specs::Field::field))]
 // The profile of an H.264 stream, by the two bytes of its avcC.
 ghost use Rattle.std.specs.Prelude.{◌≡◌};
 ghost use Rattle.profiles.specs.Profiles.{profile_of};
@@ -14,33 +14,24 @@ pub enum Profile {
     High,
 }
 
-#[derive(Clone, Copy)]
-pub enum Told {
-    Is(Profile),
-    Refused(Refusal),
-}
-
-pub fn profile_of(indication: u8, compatibility: u8) -> Told
+pub fn profile_of(indication: u8, compatibility: u8) -> Result<Profile, Refusal>
     ensures { result ≡ profile_of indication compatibility }
 {
     if indication == 66 {
         // constraint_set1_flag is the second bit from the top.
         if compatibility / 0x40 % 2 == 1 {
-            return Told::Is(Profile::ConstrainedBaseline);
+            return Ok(Profile::ConstrainedBaseline);
         }
-        return Told::Is(Profile::Baseline);
+        return Ok(Profile::Baseline);
     }
     if indication == 77 {
-        return Told::Is(Profile::Main);
+        return Ok(Profile::Main);
     }
     if indication == 88 {
-        return Told::Is(Profile::Extended);
+        return Ok(Profile::Extended);
     }
     if indication == 100 {
-        return Told::Is(Profile::High);
+        return Ok(Profile::High);
     }
-    Told::Refused(Refusal {
-        number: 8,
-        detail: 0,
-    })
+    Err(Refusal::Value(0))
 }

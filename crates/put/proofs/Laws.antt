@@ -1,5 +1,6 @@
 -- What writing means, each law over the width: what is written reads back, the rest stays, a refusal changes nothing, and
 -- writing what was read changes nothing. Assumes nothing.
+use Rattle.std.specs.Prelude.{Ok, Err}
 use mathlib.Core.Path.{◌≡◌, refl, sym, ap, ap₂, ◌∙◌}
 use mathlib.Core.Logic.{◌⊎◌, inl, inr}
 use mathlib.Core.Bool.{Bool, true, false}
@@ -12,12 +13,12 @@ use lib.Seq.{sets, sets-eq, length-sets, get_or-set_other, length-take-le, take-
 use lib.Dec.{leb, ltb}
 use borrow.Author.Tests.{leb-true, ltb-true}
 use Rattle.numbers.specs.Number.{be, bytes}
-use Rattle.numbers.specs.Field.{refusal, when, fits, field, widest}
+use Rattle.numbers.specs.Field.{when, fits, field, widest}
+use Rattle.numbers.specs.declared.Refusal.TheVariants as refusal
 use Rattle.numbers.specs.declared.Refusal.{Refusal}
 use Rattle.numbers.proofs.Laws.{Bytes, be-bytes, bytes-be, be-below, length-bytes, of-bytes, to-bytes}
 use Rattle.numbers.proofs.Chain.{whole, is_le, is_lt}
 use Rattle.put.specs.Put.{Wrote, wrote, placed, put_of}
-use Rattle.put.specs.declared.Put.TheVariants.{Done, Refused}
 
 -- A RUN OF STORES
 
@@ -51,21 +52,21 @@ module _ {A : Type 0} where
   both P false x y p q = q
 
 module _ (w n at : ℕ) (buf out : List ℕ) where
-  not_done : (p : ℕ) (q : Refusal) (l : List ℕ) → wrote (Refused q) l ≡ wrote (Done p) out → ⊥
+  not_done : (p : ℕ) (q : Refusal) (l : List ℕ) → wrote (Err q) l ≡ wrote (Ok p) out → ⊥
   not_done p q l e = let z : ◌≡◌ {A = ℕ} 0 1 = cc in omega arith
 
-  module _ (p : ℕ) (e : put_of w n at buf ≡ wrote (Done p) out) where
+  module _ (p : ℕ) (e : put_of w n at buf ≡ wrote (Ok p) out) where
     -- it was written, so the number has w bytes, and there was room for them
-    has_width : (leb w widest ≡ true) × (when (ltb n (256 ^ w)) (placed (bytes w n) w at buf) (wrote (Refused (refusal 13 0)) buf) ≡ wrote (Done p) out)
+    has_width : (leb w widest ≡ true) × (when (ltb n (256 ^ w)) (placed (bytes w n) w at buf) (wrote (Err refusal.Unwritable) buf) ≡ wrote (Ok p) out)
     has_width = first _ _ _ _ e (not_done p _ _)
 
-    has-bytes : (ltb n (256 ^ w) ≡ true) × (placed (bytes w n) w at buf ≡ wrote (Done p) out)
+    has-bytes : (ltb n (256 ^ w) ≡ true) × (placed (bytes w n) w at buf ≡ wrote (Ok p) out)
     has-bytes = first _ _ _ _ has_width.1 (not_done p _ _)
 
-    has_room : (fits w buf at ≡ true) × (wrote (Done (at + w)) (sets buf at (bytes w n)) ≡ wrote (Done p) out)
+    has_room : (fits w buf at ≡ true) × (wrote (Ok (at + w)) (sets buf at (bytes w n)) ≡ wrote (Ok p) out)
     has_room =
         first _ _ _ _ has-bytes.1
-        (both (λ v. v ≡ wrote (Done p) out → ⊥) _ _ _ (not_done p _ _) (not_done p _ _))
+        (both (λ v. v ≡ wrote (Ok p) out → ⊥) _ _ _ (not_done p _ _) (not_done p _ _))
 
     -- the position after it, and the buffer
     pub position-after : p ≡ at + w
@@ -90,12 +91,23 @@ module _ (w n at : ℕ) (buf out : List ℕ) where
     outside-stays k h = ap (λ b. get_or b k 0) buffer-after ∙ beside (bytes w n) buf at k (rw length-bytes h)
 
   -- a refusal leaves the buffer as it was
-  pub a-refusal-keeps : (q : Refusal) → put_of w n at buf ≡ wrote (Refused q) out → out ≡ buf
+  pub a-refusal-keeps : (q : Refusal) → put_of w n at buf ≡ wrote (Err q) out → out ≡ buf
   a-refusal-keeps q =
-      both Kept _ _ _ (both Kept _ _ _ (both Kept _ _ _ (λ e. let z : ◌≡◌ {A = ℕ} 0 1 = cc in absurd (omega arith)) (both Kept _ _ _ (λ e. cc) (λ e. cc))) (λ e. cc)) (λ e. cc)
+      both Kept (leb w widest) (when (ltb n (256 ^ w)) (placed (bytes w n) w at buf) no) no
+      (both Kept (ltb n (256 ^ w)) (placed (bytes w n) w at buf) no
+      (both Kept (fits w buf at) (wrote (Ok (at + w)) (sets buf at (bytes w n))) (when (ltb (at + w) (2 ^ 64)) small (wrote (Err refusal.Overflow) buf))
+      (λ e. let z : ◌≡◌ {A = ℕ} 0 1 = cc e in absurd (omega arith))
+      (both Kept (ltb (at + w) (2 ^ 64)) small (wrote (Err refusal.Overflow) buf) (λ e. cc e) (λ e. cc e)))
+      (λ e. cc e)) (λ e. cc e)
     where
       Kept : Wrote → Type 0
-      Kept v = v ≡ wrote (Refused q) out → out ≡ buf
+      Kept v = v ≡ wrote (Err q) out → out ≡ buf
+
+      no : Wrote
+      no = wrote (Err refusal.Unwritable) buf
+
+      small : Wrote
+      small = wrote (Err (refusal.TooSmall (at + w))) buf
 
 -- READING AND WRITING UNDO EACH OTHER
 
@@ -107,7 +119,7 @@ pub reads-unique : (w : ℕ) (s t : List ℕ) → Bytes s → Bytes t → length
 reads-unique w s t f g k l e = sym (to-bytes w s f k) ∙ ap (bytes w) e ∙ to-bytes w t g l
 
 -- what was read, written where it stood, changes nothing
-pub read-writes-back : (w at : ℕ) (s : List ℕ) → Bytes s → w ≤ 8 → at + w ≤ length s → put_of w (be w s at) at s ≡ wrote (Done (at + w)) s
+pub read-writes-back : (w at : ℕ) (s : List ℕ) → Bytes s → w ≤ 8 → at + w ≤ length s → put_of w (be w s at) at s ≡ wrote (Ok (at + w)) s
 read-writes-back w at s h v f =
     let n = be w s at in
     let l : length (bytes w n) ≡ w = length-bytes w n in
@@ -115,4 +127,4 @@ read-writes-back w at s h v f =
     sets-eq (bytes w n) s at (omega arith)
     ∙ ap₂ (λ (b : List ℕ) (k : ℕ). take at s ++ b ++ drop (at + k) s) (bytes-be w s at h f) l
     ∙ ap (λ b. b ++ drop (at + w) s) (sym (take-add at w s)) ∙ take-append-drop (at + w) s in
-    sym (is_le _ _ _ w widest v (is_lt _ _ _ n (256 ^ w) (be-below w s at h) (is_le _ _ _ (at + w) (length s) f (ap (wrote (Done (at + w))) (sym same)))))
+    sym (is_le _ _ _ w widest v (is_lt _ _ _ n (256 ^ w) (be-below w s at h) (is_le _ _ _ (at + w) (length s) f (ap (wrote (Ok (at + w))) (sym same)))))

@@ -1,18 +1,11 @@
-#![tactic(auto)]
+#![tactic(auto, unfolding(numbers::specs::Field::when, numbers::specs::Field::field))]
 // Writers of numbers into a lent buffer. A refusal leaves the buffer as it was; bytes outside of the number's always stay.
 ghost use Rattle.std.specs.Prelude.{◌≡◌, ◌+◌, ◌-◌, ◌^◌, ◌≤◌, length, ltb};
 ghost use Rattle.std.proofs.lemmas.List.Edits.{sets};
 ghost use Rattle.numbers.specs.Number.{bytes};
 ghost use Rattle.put.specs.Put.{wrote, placed, put_of};
 
-use numbers::Refusal;
-
-// The position after what was written, or why nothing was.
-#[derive(Clone, Copy)]
-pub enum Put {
-    Done(usize),
-    Refused(Refusal),
-}
+use numbers::{Number, Refusal};
 
 // 256 to the power of w.
 const POWERS: [u64; 8] = [
@@ -59,67 +52,31 @@ fn has_bytes(n: u64, w: usize) -> bool
 }
 
 // n in w bytes at `at`.
-pub fn number(buf: &mut [u8], at: usize, w: usize, n: u64) -> Put
+pub fn number(buf: &mut [u8], at: usize, w: usize, n: u64) -> Result<usize, Refusal>
     ensures { wrote result buf.new ≡ put_of w n at buf.old }
 {
     if 8 < w {
-        return Put::Refused(Refusal {
-            number: 13,
-            detail: 0,
-        });
+        return Err(Refusal::Unwritable);
     }
     if !has_bytes(n, w) {
-        return Put::Refused(Refusal {
-            number: 13,
-            detail: 0,
-        });
+        return Err(Refusal::Unwritable);
     }
     if 0xffff_ffff_ffff_ffff - w < at {
-        return Put::Refused(Refusal {
-            number: 9,
-            detail: 0,
-        });
+        return Err(Refusal::Overflow);
     }
     let end = at + w;
     if buf.len() < end {
-        return Put::Refused(Refusal {
-            number: 12,
-            detail: end,
-        });
+        return Err(Refusal::TooSmall(end));
     }
     store(buf, at, w, n);
-    Put::Done(end)
+    Ok(end)
 }
 
-pub fn u8_at(buf: &mut [u8], at: usize, n: u8) -> Put
-    ensures { wrote result buf.new ≡ put_of 1 n at buf.old }
+/// x at `at`, in as many bytes as its type has.
+pub fn write<T: Number>(buf: &mut [u8], at: usize, x: T) -> Result<usize, Refusal>
+    ensures { wrote result buf.new ≡ put_of T.WIDTH (T.number_of x) at buf.old }
 {
-    number(buf, at, 1, n as u64)
-}
-
-pub fn u16_at(buf: &mut [u8], at: usize, n: u16) -> Put
-    ensures { wrote result buf.new ≡ put_of 2 n at buf.old }
-{
-    number(buf, at, 2, n as u64)
-}
-
-// The lower three bytes of n; 13 where it has a fourth.
-pub fn u24_at(buf: &mut [u8], at: usize, n: u32) -> Put
-    ensures { wrote result buf.new ≡ put_of 3 n at buf.old }
-{
-    number(buf, at, 3, n as u64)
-}
-
-pub fn u32_at(buf: &mut [u8], at: usize, n: u32) -> Put
-    ensures { wrote result buf.new ≡ put_of 4 n at buf.old }
-{
-    number(buf, at, 4, n as u64)
-}
-
-pub fn u64_at(buf: &mut [u8], at: usize, n: u64) -> Put
-    ensures { wrote result buf.new ≡ put_of 8 n at buf.old }
-{
-    number(buf, at, 8, n)
+    number(buf, at, T::WIDTH, x.number())
 }
 
 // The bytes of `part` from `at` on.
@@ -135,22 +92,16 @@ fn copy(buf: &mut [u8], at: usize, part: &[u8])
 }
 
 // The bytes of another slice, at `at`.
-pub fn part(buf: &mut [u8], at: usize, part: &[u8]) -> Put
+pub fn part(buf: &mut [u8], at: usize, part: &[u8]) -> Result<usize, Refusal>
     ensures { wrote result buf.new ≡ placed part.now (length part.now) at buf.old }
 {
     if 0xffff_ffff_ffff_ffff - part.len() < at {
-        return Put::Refused(Refusal {
-            number: 9,
-            detail: 0,
-        });
+        return Err(Refusal::Overflow);
     }
     let after = at + part.len();
     if buf.len() < after {
-        return Put::Refused(Refusal {
-            number: 12,
-            detail: after,
-        });
+        return Err(Refusal::TooSmall(after));
     }
     copy(buf, at, part);
-    Put::Done(after)
+    Ok(after)
 }

@@ -1,151 +1,131 @@
 -- What the reader of a box of any type refuses: the box's own refusal, with its position from the part's start on. A
 -- type whose content is not read is fine. Assumes nothing.
-use Rattle.std.specs.Prelude.{ℕ, List, [], ◌∷◌}
+use Rattle.std.specs.Prelude.{ℕ, List, [], ◌∷◌, Result, Ok, Err}
 use Rattle.places.specs.Kinds as kinds
-use Rattle.rows.specs.declared.Judged.{Judged}
-use Rattle.rows.specs.declared.Judged.TheVariants.{Fine, Wrong}
 use Rattle.codings.specs.Codings.{Reader, reader, pick, coding_of}
 use Rattle.emsg.specs.Emsg.{emsg_of}
-use Rattle.emsg.specs.declared.Found as emsg-found
-use Rattle.emsg.specs.declared.Found.TheVariants as emsg
 use Rattle.trex.specs.Trex.{trex_of}
-use Rattle.trex.specs.declared.Found as trex-found
-use Rattle.trex.specs.declared.Found.TheVariants as trex
 use Rattle.tkhd.specs.Tkhd.{tkhd_of}
-use Rattle.tkhd.specs.declared.Found as tkhd-found
-use Rattle.tkhd.specs.declared.Found.TheVariants as tkhd
 use Rattle.elst.specs.Elst.{elst_of}
-use Rattle.elst.specs.declared.Found as elst-found
-use Rattle.elst.specs.declared.Found.TheVariants as elst
 use Rattle.mdhd.specs.Mdhd.{mdhd_of}
-use Rattle.mdhd.specs.declared.Found as mdhd-found
-use Rattle.mdhd.specs.declared.Found.TheVariants as mdhd
 use Rattle.hdlr.specs.Hdlr.{hdlr_of}
-use Rattle.hdlr.specs.declared.Found as hdlr-found
-use Rattle.hdlr.specs.declared.Found.TheVariants as hdlr
 use Rattle.dref.specs.Dref.{dref_of}
-use Rattle.dref.specs.declared.Found as dref-found
-use Rattle.dref.specs.declared.Found.TheVariants as dref
 use Rattle.url_box.specs.Url.{url_of}
-use Rattle.url_box.specs.declared.Found as url-found
-use Rattle.url_box.specs.declared.Found.TheVariants as url
 use Rattle.stsd.specs.Stsd.{stsd_of}
-use Rattle.stsd.specs.declared.Found as stsd-found
-use Rattle.stsd.specs.declared.Found.TheVariants as stsd
 use Rattle.stts.specs.Stts.{stts_of}
-use Rattle.stts.specs.declared.Found as stts-found
-use Rattle.stts.specs.declared.Found.TheVariants as stts
 use Rattle.ctts.specs.Ctts.{ctts_of}
-use Rattle.ctts.specs.declared.Found as ctts-found
-use Rattle.ctts.specs.declared.Found.TheVariants as ctts
 use Rattle.stsc.specs.Stsc.{stsc_of}
-use Rattle.stsc.specs.declared.Found as stsc-found
-use Rattle.stsc.specs.declared.Found.TheVariants as stsc
 use Rattle.stsz.specs.Stsz.{stsz_of}
-use Rattle.stsz.specs.declared.Found as stsz-found
-use Rattle.stsz.specs.declared.Found.TheVariants as stsz
 use Rattle.stco.specs.Stco.{stco_of}
-use Rattle.stco.specs.declared.Found as stco-found
-use Rattle.stco.specs.declared.Found.TheVariants as stco
 use Rattle.co64.specs.Co64.{co64_of}
-use Rattle.co64.specs.declared.Found as co64-found
-use Rattle.co64.specs.declared.Found.TheVariants as co64
 use Rattle.stss.specs.Stss.{stss_of}
-use Rattle.stss.specs.declared.Found as stss-found
-use Rattle.stss.specs.declared.Found.TheVariants as stss
 use Rattle.mfhd.specs.Mfhd.{mfhd_of}
-use Rattle.mfhd.specs.declared.Found as mfhd-found
-use Rattle.mfhd.specs.declared.Found.TheVariants as mfhd
 use Rattle.tfhd.specs.Tfhd.{tfhd_of}
-use Rattle.tfhd.specs.declared.Found as tfhd-found
-use Rattle.tfhd.specs.declared.Found.TheVariants as tfhd
 use Rattle.tfdt.specs.Tfdt.{tfdt_of}
-use Rattle.tfdt.specs.declared.Found as tfdt-found
-use Rattle.tfdt.specs.declared.Found.TheVariants as tfdt
 use Rattle.trun.specs.Trun.{trun_of}
-use Rattle.trun.specs.declared.Found as trun-found
-use Rattle.trun.specs.declared.Found.TheVariants as trun
+use Rattle.numbers.specs.declared.Refusal.{Refusal}
+use Rattle.trun.specs.declared.Trun.{Trun}
+use Rattle.tfdt.specs.declared.Tfdt.{Tfdt}
+use Rattle.tfhd.specs.declared.Tfhd.{Tfhd}
+use Rattle.mfhd.specs.declared.Mfhd.{Mfhd}
+use Rattle.stss.specs.declared.Stss.{Stss}
+use Rattle.co64.specs.declared.Co64.{Co64}
+use Rattle.stco.specs.declared.Stco.{Stco}
+use Rattle.stsz.specs.declared.Stsz.{Stsz}
+use Rattle.stsc.specs.declared.Stsc.{Stsc}
+use Rattle.ctts.specs.declared.Ctts.{Ctts}
+use Rattle.stts.specs.declared.Stts.{Stts}
+use Rattle.stsd.specs.declared.Stsd.{Stsd}
+use Rattle.url_box.specs.declared.Url.{Url}
+use Rattle.dref.specs.declared.Dref.{Dref}
+use Rattle.hdlr.specs.declared.Hdlr.{Hdlr}
+use Rattle.mdhd.specs.declared.Mdhd.{Mdhd}
+use Rattle.elst.specs.declared.Elst.{Elst}
+use Rattle.tkhd.specs.declared.Tkhd.{Tkhd}
+use Rattle.trex.specs.declared.Trex.{Trex}
+use Rattle.emsg.specs.declared.Emsg.{Emsg}
+use Rattle.emsg.specs.declared.Places.{Places}
 
 -- what each reader's answer refuses
-abbrev pub emsg_fault : emsg-found.Found → Judged
-emsg_fault (emsg.Is m at) = Fine
-emsg_fault (emsg.Refused q) = Wrong q
+abbrev pub emsg_fault : Result (Emsg × Places) Refusal → Result (Unit {0}) Refusal
+emsg_fault (Ok (m, at)) = (Ok tt)
+emsg_fault (Err q) = Err q
 
-abbrev pub trex_fault : trex-found.Found → Judged
-trex_fault (trex.Is m) = Fine
-trex_fault (trex.Refused q) = Wrong q
+abbrev pub trex_fault : Result Trex Refusal → Result (Unit {0}) Refusal
+trex_fault (Ok m) = (Ok tt)
+trex_fault (Err q) = Err q
 
-abbrev pub tkhd_fault : tkhd-found.Found → Judged
-tkhd_fault (tkhd.Is m) = Fine
-tkhd_fault (tkhd.Refused q) = Wrong q
+abbrev pub tkhd_fault : Result Tkhd Refusal → Result (Unit {0}) Refusal
+tkhd_fault (Ok m) = (Ok tt)
+tkhd_fault (Err q) = Err q
 
-abbrev pub elst_fault : elst-found.Found → Judged
-elst_fault (elst.Is m at) = Fine
-elst_fault (elst.Refused q) = Wrong q
+abbrev pub elst_fault : Result (Elst × ℕ) Refusal → Result (Unit {0}) Refusal
+elst_fault (Ok (m, at)) = (Ok tt)
+elst_fault (Err q) = Err q
 
-abbrev pub mdhd_fault : mdhd-found.Found → Judged
-mdhd_fault (mdhd.Is m) = Fine
-mdhd_fault (mdhd.Refused q) = Wrong q
+abbrev pub mdhd_fault : Result Mdhd Refusal → Result (Unit {0}) Refusal
+mdhd_fault (Ok m) = (Ok tt)
+mdhd_fault (Err q) = Err q
 
-abbrev pub hdlr_fault : hdlr-found.Found → Judged
-hdlr_fault (hdlr.Is m) = Fine
-hdlr_fault (hdlr.Refused q) = Wrong q
+abbrev pub hdlr_fault : Result Hdlr Refusal → Result (Unit {0}) Refusal
+hdlr_fault (Ok m) = (Ok tt)
+hdlr_fault (Err q) = Err q
 
-abbrev pub dref_fault : dref-found.Found → Judged
-dref_fault (dref.Is m) = Fine
-dref_fault (dref.Refused q) = Wrong q
+abbrev pub dref_fault : Result Dref Refusal → Result (Unit {0}) Refusal
+dref_fault (Ok m) = (Ok tt)
+dref_fault (Err q) = Err q
 
-abbrev pub url_fault : url-found.Found → Judged
-url_fault (url.Is m) = Fine
-url_fault (url.Refused q) = Wrong q
+abbrev pub url_fault : Result Url Refusal → Result (Unit {0}) Refusal
+url_fault (Ok m) = (Ok tt)
+url_fault (Err q) = Err q
 
-abbrev pub stsd_fault : stsd-found.Found → Judged
-stsd_fault (stsd.Is m) = Fine
-stsd_fault (stsd.Refused q) = Wrong q
+abbrev pub stsd_fault : Result Stsd Refusal → Result (Unit {0}) Refusal
+stsd_fault (Ok m) = (Ok tt)
+stsd_fault (Err q) = Err q
 
-abbrev pub stts_fault : stts-found.Found → Judged
-stts_fault (stts.Is m at) = Fine
-stts_fault (stts.Refused q) = Wrong q
+abbrev pub stts_fault : Result (Stts × ℕ) Refusal → Result (Unit {0}) Refusal
+stts_fault (Ok (m, at)) = (Ok tt)
+stts_fault (Err q) = Err q
 
-abbrev pub ctts_fault : ctts-found.Found → Judged
-ctts_fault (ctts.Is m at) = Fine
-ctts_fault (ctts.Refused q) = Wrong q
+abbrev pub ctts_fault : Result (Ctts × ℕ) Refusal → Result (Unit {0}) Refusal
+ctts_fault (Ok (m, at)) = (Ok tt)
+ctts_fault (Err q) = Err q
 
-abbrev pub stsc_fault : stsc-found.Found → Judged
-stsc_fault (stsc.Is m at) = Fine
-stsc_fault (stsc.Refused q) = Wrong q
+abbrev pub stsc_fault : Result (Stsc × ℕ) Refusal → Result (Unit {0}) Refusal
+stsc_fault (Ok (m, at)) = (Ok tt)
+stsc_fault (Err q) = Err q
 
-abbrev pub stsz_fault : stsz-found.Found → Judged
-stsz_fault (stsz.Is m at) = Fine
-stsz_fault (stsz.Refused q) = Wrong q
+abbrev pub stsz_fault : Result (Stsz × ℕ) Refusal → Result (Unit {0}) Refusal
+stsz_fault (Ok (m, at)) = (Ok tt)
+stsz_fault (Err q) = Err q
 
-abbrev pub stco_fault : stco-found.Found → Judged
-stco_fault (stco.Is m at) = Fine
-stco_fault (stco.Refused q) = Wrong q
+abbrev pub stco_fault : Result (Stco × ℕ) Refusal → Result (Unit {0}) Refusal
+stco_fault (Ok (m, at)) = (Ok tt)
+stco_fault (Err q) = Err q
 
-abbrev pub co64_fault : co64-found.Found → Judged
-co64_fault (co64.Is m at) = Fine
-co64_fault (co64.Refused q) = Wrong q
+abbrev pub co64_fault : Result (Co64 × ℕ) Refusal → Result (Unit {0}) Refusal
+co64_fault (Ok (m, at)) = (Ok tt)
+co64_fault (Err q) = Err q
 
-abbrev pub stss_fault : stss-found.Found → Judged
-stss_fault (stss.Is m at) = Fine
-stss_fault (stss.Refused q) = Wrong q
+abbrev pub stss_fault : Result (Stss × ℕ) Refusal → Result (Unit {0}) Refusal
+stss_fault (Ok (m, at)) = (Ok tt)
+stss_fault (Err q) = Err q
 
-abbrev pub mfhd_fault : mfhd-found.Found → Judged
-mfhd_fault (mfhd.Is m) = Fine
-mfhd_fault (mfhd.Refused q) = Wrong q
+abbrev pub mfhd_fault : Result Mfhd Refusal → Result (Unit {0}) Refusal
+mfhd_fault (Ok m) = (Ok tt)
+mfhd_fault (Err q) = Err q
 
-abbrev pub tfhd_fault : tfhd-found.Found → Judged
-tfhd_fault (tfhd.Is m) = Fine
-tfhd_fault (tfhd.Refused q) = Wrong q
+abbrev pub tfhd_fault : Result Tfhd Refusal → Result (Unit {0}) Refusal
+tfhd_fault (Ok m) = (Ok tt)
+tfhd_fault (Err q) = Err q
 
-abbrev pub tfdt_fault : tfdt-found.Found → Judged
-tfdt_fault (tfdt.Is m) = Fine
-tfdt_fault (tfdt.Refused q) = Wrong q
+abbrev pub tfdt_fault : Result Tfdt Refusal → Result (Unit {0}) Refusal
+tfdt_fault (Ok m) = (Ok tt)
+tfdt_fault (Err q) = Err q
 
-abbrev pub trun_fault : trun-found.Found → Judged
-trun_fault (trun.Is m at) = Fine
-trun_fault (trun.Refused q) = Wrong q
+abbrev pub trun_fault : Result (Trun × ℕ) Refusal → Result (Unit {0}) Refusal
+trun_fault (Ok (m, at)) = (Ok tt)
+trun_fault (Err q) = Err q
 
 unfoldable pub readers : List Reader
 readers =
@@ -172,5 +152,5 @@ readers =
     []
 
 -- the reader of a type, asked: one of these, or of those that say how samples are coded
-abbrev pub fault_of : ℕ → List ℕ → Judged
+abbrev pub fault_of : ℕ → List ℕ → Result (Unit {0}) Refusal
 fault_of kind part = pick (coding_of kind part) kind part readers

@@ -1,4 +1,4 @@
-#![tactic(auto)]
+#![tactic(auto, unfolding(numbers::specs::Field::when, numbers::specs::Field::field))]
 // What the reader of a box of any type refuses; those of sample entries and their configurations stand in `codings`. A type
 // whose content is not read is fine.
 ghost use Rattle.std.specs.Prelude.{◌≡◌};
@@ -27,191 +27,151 @@ ghost use Rattle.readers.specs.Readers.{hdlr_fault, dref_fault, url_fault, stsd_
 ghost use Rattle.readers.specs.Readers.{stsc_fault, stsz_fault, stco_fault, co64_fault, stss_fault, mfhd_fault};
 ghost use Rattle.readers.specs.Readers.{tfhd_fault, tfdt_fault, trun_fault};
 
+use numbers::Refusal;
 use places::kinds;
-use rows::Judged;
 
-fn emsg(part: &[u8]) -> Judged
+fn emsg(part: &[u8]) -> Result<(), Refusal>
     ensures { result ≡ emsg_fault (emsg_of part.now) }
 {
-    match emsg::read(part) {
-        emsg::Found::Is(_, _) => Judged::Fine,
-        emsg::Found::Refused(q) => Judged::Wrong(q),
-    }
+    emsg::read(part)?;
+    Ok(())
 }
 
-fn trex(part: &[u8]) -> Judged
+fn trex(part: &[u8]) -> Result<(), Refusal>
     ensures { result ≡ trex_fault (trex_of part.now) }
 {
-    match trex::read(part) {
-        trex::Found::Is(_) => Judged::Fine,
-        trex::Found::Refused(q) => Judged::Wrong(q),
-    }
+    trex::read(part)?;
+    Ok(())
 }
 
-fn tkhd(part: &[u8]) -> Judged
+fn tkhd(part: &[u8]) -> Result<(), Refusal>
     ensures { result ≡ tkhd_fault (tkhd_of part.now) }
 {
-    match tkhd::read(part) {
-        tkhd::Found::Is(_) => Judged::Fine,
-        tkhd::Found::Refused(q) => Judged::Wrong(q),
-    }
+    tkhd::read(part)?;
+    Ok(())
 }
 
-fn elst(part: &[u8]) -> Judged
+fn elst(part: &[u8]) -> Result<(), Refusal>
     ensures { result ≡ elst_fault (elst_of part.now) }
 {
-    match elst::read(part) {
-        elst::Found::Is(_, _) => Judged::Fine,
-        elst::Found::Refused(q) => Judged::Wrong(q),
-    }
+    elst::read(part)?;
+    Ok(())
 }
 
-fn mdhd(part: &[u8]) -> Judged
+fn mdhd(part: &[u8]) -> Result<(), Refusal>
     ensures { result ≡ mdhd_fault (mdhd_of part.now) }
 {
-    match mdhd::read(part) {
-        mdhd::Found::Is(_) => Judged::Fine,
-        mdhd::Found::Refused(q) => Judged::Wrong(q),
-    }
+    mdhd::read(part)?;
+    Ok(())
 }
 
-fn hdlr(part: &[u8]) -> Judged
+fn hdlr(part: &[u8]) -> Result<(), Refusal>
     ensures { result ≡ hdlr_fault (hdlr_of part.now) }
 {
-    match hdlr::read(part) {
-        hdlr::Found::Is(_) => Judged::Fine,
-        hdlr::Found::Refused(q) => Judged::Wrong(q),
-    }
+    hdlr::read(part)?;
+    Ok(())
 }
 
-fn dref(part: &[u8]) -> Judged
+fn dref(part: &[u8]) -> Result<(), Refusal>
     ensures { result ≡ dref_fault (dref_of part.now) }
 {
-    match dref::read(part) {
-        dref::Found::Is(_) => Judged::Fine,
-        dref::Found::Refused(q) => Judged::Wrong(q),
-    }
+    dref::read(part)?;
+    Ok(())
 }
 
-fn url(part: &[u8]) -> Judged
+fn url(part: &[u8]) -> Result<(), Refusal>
     ensures { result ≡ url_fault (url_of part.now) }
 {
-    match url_box::read(part) {
-        url_box::Found::Is(_) => Judged::Fine,
-        url_box::Found::Refused(q) => Judged::Wrong(q),
-    }
+    url_box::read(part)?;
+    Ok(())
 }
 
-fn stsd(part: &[u8]) -> Judged
+fn stsd(part: &[u8]) -> Result<(), Refusal>
     ensures { result ≡ stsd_fault (stsd_of part.now) }
 {
-    match stsd::read(part) {
-        stsd::Found::Is(_) => Judged::Fine,
-        stsd::Found::Refused(q) => Judged::Wrong(q),
-    }
+    stsd::read(part)?;
+    Ok(())
 }
 
-fn stts(part: &[u8]) -> Judged
+fn stts(part: &[u8]) -> Result<(), Refusal>
     ensures { result ≡ stts_fault (stts_of part.now) }
 {
-    match stts::read(part) {
-        stts::Found::Is(_, _) => Judged::Fine,
-        stts::Found::Refused(q) => Judged::Wrong(q),
-    }
+    stts::read(part)?;
+    Ok(())
 }
 
-fn ctts(part: &[u8]) -> Judged
+fn ctts(part: &[u8]) -> Result<(), Refusal>
     ensures { result ≡ ctts_fault (ctts_of part.now) }
 {
-    match ctts::read(part) {
-        ctts::Found::Is(_, _) => Judged::Fine,
-        ctts::Found::Refused(q) => Judged::Wrong(q),
-    }
+    ctts::read(part)?;
+    Ok(())
 }
 
-fn stsc(part: &[u8]) -> Judged
+fn stsc(part: &[u8]) -> Result<(), Refusal>
     ensures { result ≡ stsc_fault (stsc_of part.now) }
 {
-    match stsc::read(part) {
-        stsc::Found::Is(_, _) => Judged::Fine,
-        stsc::Found::Refused(q) => Judged::Wrong(q),
-    }
+    stsc::read(part)?;
+    Ok(())
 }
 
-fn stsz(part: &[u8]) -> Judged
+fn stsz(part: &[u8]) -> Result<(), Refusal>
     ensures { result ≡ stsz_fault (stsz_of part.now) }
 {
-    match stsz::read(part) {
-        stsz::Found::Is(_, _) => Judged::Fine,
-        stsz::Found::Refused(q) => Judged::Wrong(q),
-    }
+    stsz::read(part)?;
+    Ok(())
 }
 
-fn stco(part: &[u8]) -> Judged
+fn stco(part: &[u8]) -> Result<(), Refusal>
     ensures { result ≡ stco_fault (stco_of part.now) }
 {
-    match stco::read(part) {
-        stco::Found::Is(_, _) => Judged::Fine,
-        stco::Found::Refused(q) => Judged::Wrong(q),
-    }
+    stco::read(part)?;
+    Ok(())
 }
 
-fn co64(part: &[u8]) -> Judged
+fn co64(part: &[u8]) -> Result<(), Refusal>
     ensures { result ≡ co64_fault (co64_of part.now) }
 {
-    match co64::read(part) {
-        co64::Found::Is(_, _) => Judged::Fine,
-        co64::Found::Refused(q) => Judged::Wrong(q),
-    }
+    co64::read(part)?;
+    Ok(())
 }
 
-fn stss(part: &[u8]) -> Judged
+fn stss(part: &[u8]) -> Result<(), Refusal>
     ensures { result ≡ stss_fault (stss_of part.now) }
 {
-    match stss::read(part) {
-        stss::Found::Is(_, _) => Judged::Fine,
-        stss::Found::Refused(q) => Judged::Wrong(q),
-    }
+    stss::read(part)?;
+    Ok(())
 }
 
-fn mfhd(part: &[u8]) -> Judged
+fn mfhd(part: &[u8]) -> Result<(), Refusal>
     ensures { result ≡ mfhd_fault (mfhd_of part.now) }
 {
-    match mfhd::read(part) {
-        mfhd::Found::Is(_) => Judged::Fine,
-        mfhd::Found::Refused(q) => Judged::Wrong(q),
-    }
+    mfhd::read(part)?;
+    Ok(())
 }
 
-fn tfhd(part: &[u8]) -> Judged
+fn tfhd(part: &[u8]) -> Result<(), Refusal>
     ensures { result ≡ tfhd_fault (tfhd_of part.now) }
 {
-    match tfhd::read(part) {
-        tfhd::Found::Is(_) => Judged::Fine,
-        tfhd::Found::Refused(q) => Judged::Wrong(q),
-    }
+    tfhd::read(part)?;
+    Ok(())
 }
 
-fn tfdt(part: &[u8]) -> Judged
+fn tfdt(part: &[u8]) -> Result<(), Refusal>
     ensures { result ≡ tfdt_fault (tfdt_of part.now) }
 {
-    match tfdt::read(part) {
-        tfdt::Found::Is(_) => Judged::Fine,
-        tfdt::Found::Refused(q) => Judged::Wrong(q),
-    }
+    tfdt::read(part)?;
+    Ok(())
 }
 
-fn trun(part: &[u8]) -> Judged
+fn trun(part: &[u8]) -> Result<(), Refusal>
     ensures { result ≡ trun_fault (trun_of part.now) }
 {
-    match trun::read(part) {
-        trun::Found::Is(_, _) => Judged::Fine,
-        trun::Found::Refused(q) => Judged::Wrong(q),
-    }
+    trun::read(part)?;
+    Ok(())
 }
 
 // The refusal of the reader of this type, its positions from the part's start on.
-pub fn fault(kind: u32, part: &[u8]) -> Judged
+pub fn fault(kind: u32, part: &[u8]) -> Result<(), Refusal>
     ensures { result ≡ fault_of kind part.now }
 {
     if kind == kinds::EMSG {

@@ -1,14 +1,12 @@
 -- A track that is being written, and a sample more (document 01, Limits): 4 where it has as many samples as a track may
 -- have; else 9 where the sample's time, which is what those before it last, is no decode time (A13, 3), or where their
 -- bytes or their durations together have no 64 bits. Assumes nothing.
-use Rattle.std.specs.Prelude.{ℕ, ◌+◌, Bool, ◌&&◌, List, [], ◌∷◌, ltb}
-use Rattle.numbers.specs.Field.{refusal, when}
+use Rattle.std.specs.Prelude.{ℕ, ◌+◌, Bool, ◌&&◌, List, [], ◌∷◌, ltb, Result, Ok, Err}
+use Rattle.numbers.specs.Field.{when}
+use Rattle.numbers.specs.declared.Refusal.TheVariants as refusal
 use Rattle.samples.specs.Lists.{end_bound, time_bound}
 use Rattle.record.specs.declared.Track.{Track}
-use Rattle.record.specs.declared.More.{More}
-use Rattle.record.specs.declared.More.TheVariants as more
-use Rattle.record.specs.declared.Put.{Put}
-use Rattle.record.specs.declared.Put.TheVariants as put
+use Rattle.numbers.specs.declared.Refusal.{Refusal}
 
 -- the most samples of a track
 abbrev pub most : ℕ
@@ -22,36 +20,36 @@ grown_by t size duration = record { samples = t.samples + 1; bytes = t.bytes + s
 abbrev pub holds : Track → ℕ → ℕ → Bool
 holds t size duration = ltb t.duration time_bound && (ltb (t.bytes + size) end_bound && ltb (t.duration + duration) end_bound)
 
-abbrev pub added_to : Track → ℕ → ℕ → More
+abbrev pub added_to : Track → ℕ → ℕ → Result Track Refusal
 added_to t size duration =
-    when (ltb t.samples most) (when (holds t size duration) (more.Is (grown_by t size duration)) (more.Refused (refusal 9 0)))
-    (more.Refused (refusal 4 0))
+    when (ltb t.samples most) (when (holds t size duration) (Ok (grown_by t size duration)) (Err refusal.Overflow))
+    (Err (refusal.Limit 0))
 
 -- on with a record, or no further
-abbrev pub onward : More → (Track → More) → More
-onward (more.Is n) go = go n
-onward (more.Refused q) go = more.Refused q
+abbrev pub onward : Result Track Refusal → (Track → Result Track Refusal) → Result Track Refusal
+onward (Ok n) go = go n
+onward (Err q) go = Err q
 
 -- the samples of a column of sizes and one of durations, one after the other, as many as both have; the first refusal
-unfoldable pub all_to : Track → List ℕ → List ℕ → More
-all_to t [] ds = more.Is t
-all_to t (s ∷ ss) [] = more.Is t
+unfoldable pub all_to : Track → List ℕ → List ℕ → Result Track Refusal
+all_to t [] ds = Ok t
+all_to t (s ∷ ss) [] = Ok t
 all_to t (s ∷ ss) (d ∷ ds) = onward (added_to t s d) (λ n. all_to n ss ds)
 
 -- IN PLACE
 
 -- an answer, with the record as it is left
 pub data Outcome : Type 0 where
-  outcome : Put → Track → Outcome
+  outcome : Result (Unit {0}) Refusal → Track → Outcome
 
-abbrev pub answer_of : More → Put
-answer_of (more.Is t) = put.Done
-answer_of (more.Refused q) = put.Refused q
+abbrev pub answer_of : Result Track Refusal → Result (Unit {0}) Refusal
+answer_of (Ok t) = (Ok tt)
+answer_of (Err q) = Err q
 
 -- a refusal leaves the record as it was
-abbrev pub afterwards : Track → More → Track
-afterwards t (more.Is n) = n
-afterwards t (more.Refused q) = t
+abbrev pub afterwards : Track → Result Track Refusal → Track
+afterwards t (Ok n) = n
+afterwards t (Err q) = t
 
 abbrev pub outcome_of : Track → ℕ → ℕ → Outcome
 outcome_of t size duration = outcome (answer_of (added_to t size duration)) (afterwards t (added_to t size duration))
@@ -59,6 +57,6 @@ outcome_of t size duration = outcome (answer_of (added_to t size duration)) (aft
 -- INSIDE
 
 -- the record, where the answer says that it has the sample
-abbrev pub whole_of : Put → Track → More
-whole_of put.Done t = more.Is t
-whole_of (put.Refused q) t = more.Refused q
+abbrev pub whole_of : Result (Unit {0}) Refusal → Track → Result Track Refusal
+whole_of (Ok tt) t = Ok t
+whole_of (Err q) t = Err q

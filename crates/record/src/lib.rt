@@ -1,4 +1,4 @@
-#![tactic(auto)]
+#![tactic(auto, unfolding(numbers::specs::Field::when, numbers::specs::Field::field))]
 // What a track that is being written has so far, as a record that is lent and changed in place.
 ghost use Rattle.std.specs.Prelude.{◌≡◌};
 ghost use Rattle.record.specs.Growth.{added_to, answer_of, afterwards, outcome, outcome_of, whole_of, all_to};
@@ -17,46 +17,23 @@ pub struct Track {
     pub duration: u64,
 }
 
-// The record with a sample more, or why there is none.
-#[derive(Clone, Copy)]
-pub enum More {
-    Is(Track),
-    Refused(Refusal),
-}
-
-// Whether the lent record has the sample, or why it is as it was.
-#[derive(Clone, Copy)]
-pub enum Put {
-    Done,
-    Refused(Refusal),
-}
-
 // The record with a sample more.
-pub fn added(t: Track, size: u32, duration: u32) -> More
+pub fn added(t: Track, size: u32, duration: u32) -> Result<Track, Refusal>
     ensures { result ≡ added_to t size duration }
 {
     let samples = t.samples;
     let bytes = t.bytes;
     let time = t.duration;
     if SAMPLES <= samples {
-        return More::Refused(Refusal {
-            number: 4,
-            detail: 0,
-        });
+        return Err(Refusal::Limit(0));
     }
     if TIME_BOUND <= time {
-        return More::Refused(Refusal {
-            number: 9,
-            detail: 0,
-        });
+        return Err(Refusal::Overflow);
     }
     if LAST - (size as u64) < bytes {
-        return More::Refused(Refusal {
-            number: 9,
-            detail: 0,
-        });
+        return Err(Refusal::Overflow);
     }
-    More::Is(Track {
+    Ok(Track {
         samples: samples + 1,
         bytes: bytes + (size as u64),
         duration: time + (duration as u64),
@@ -64,27 +41,25 @@ pub fn added(t: Track, size: u32, duration: u32) -> More
 }
 
 // What is said of a lent record, where that was told.
-fn answer(told: More) -> Put
+fn answer(told: Result<Track, Refusal>) -> Result<(), Refusal>
     ensures { result ≡ answer_of told }
 {
-    match told {
-        More::Is(_) => Put::Done,
-        More::Refused(q) => Put::Refused(q),
-    }
+    told?;
+    Ok(())
 }
 
 // What it is from then on.
-fn after(t: Track, told: More) -> Track
+fn after(t: Track, told: Result<Track, Refusal>) -> Track
     ensures { result ≡ afterwards t told }
 {
     match told {
-        More::Is(n) => n,
-        More::Refused(_) => t,
+        Ok(n) => n,
+        Err(_) => t,
     }
 }
 
 // The same in place: where it is refused, the record is as it was.
-pub fn add(track: &mut Track, size: u32, duration: u32) -> Put
+pub fn add(track: &mut Track, size: u32, duration: u32) -> Result<(), Refusal>
     ensures { outcome result track.new ≡ outcome_of track.old size duration }
 {
     let told = added(*track, size, duration);
@@ -93,17 +68,15 @@ pub fn add(track: &mut Track, size: u32, duration: u32) -> Put
 }
 
 // The record, where a lent one is said to have its sample.
-fn whole(said: Put, t: Track) -> More
+fn whole(said: Result<(), Refusal>, t: Track) -> Result<Track, Refusal>
     ensures { result ≡ whole_of said t }
 {
-    match said {
-        Put::Done => More::Is(t),
-        Put::Refused(q) => More::Refused(q),
-    }
+    let () = said?;
+    Ok(t)
 }
 
 // By value again, over a local that is lent: whoever calls this lends nothing.
-fn grown(t: Track, size: u32, duration: u32) -> More
+fn grown(t: Track, size: u32, duration: u32) -> Result<Track, Refusal>
     ensures { result ≡ added_to t size duration }
 {
     let mut next = t;
@@ -112,20 +85,20 @@ fn grown(t: Track, size: u32, duration: u32) -> More
 }
 
 // The record with all samples of a column of sizes and one of durations, as many as both have; or why it has none of them.
-pub fn all(t: Track, sizes: &[u32], durations: &[u32]) -> More
+pub fn all(t: Track, sizes: &[u32], durations: &[u32]) -> Result<Track, Refusal>
     ensures { result ≡ all_to t sizes.now durations.now }
 {
     let mut sum = t;
     let mut i = 0;
     while i < sizes.len() {
         if durations.len() <= i {
-            return More::Is(sum);
+            return Ok(sum);
         }
         match grown(sum, sizes[i], durations[i]) {
-            More::Is(n) => sum = n,
-            More::Refused(q) => return More::Refused(q),
+            Ok(n) => sum = n,
+            Err(q) => return Err(q),
         }
         i += 1;
     }
-    More::Is(sum)
+    Ok(sum)
 }

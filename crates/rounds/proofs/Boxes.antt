@@ -1,4 +1,5 @@
 -- Whole boxes of any type: what is written reads back the same, a canonical box gives its own bytes, and what is read fits. Assumes nothing.
+use Rattle.std.specs.Prelude.{Result, Ok, Err}
 use mathlib.Core.Path.{◌≡◌, refl, sym, ap, ap₂, ◌∙◌, subst}
 use mathlib.Core.Logic.{◌⊎◌, inl, inr, ⊎_elim}
 use mathlib.Core.List.{List, [], ◌∷◌, ◌++◌, append_assoc, append-nil}
@@ -11,26 +12,24 @@ use lib.Seq.{length-take-le, take_at, drop_at, take-length, drop-length, sets, l
 use lib.Dec.{ltb, leb, eqb}
 use borrow.Author.Tests.{lt-ltb, le-ltb, ltb-true, ltb-false, eqb-true, eqb-false, eq-eqb, ne_eqb}
 use Rattle.numbers.specs.Number.{be, bytes}
-use Rattle.numbers.specs.Field.{when, refusal, field}
+use Rattle.numbers.specs.Field.{when, field}
+use Rattle.numbers.specs.declared.Refusal.TheVariants as refusal
 use Rattle.numbers.specs.declared.Refusal.{Refusal}
 use Rattle.numbers.proofs.Laws.{Bytes, be-bytes, be-below, under, length-bytes}
-use Rattle.numbers.proofs.Chain.{whole, is_eq, is_ne, not-lt}
+use Rattle.numbers.proofs.Chain.{whole, is_eq, is_ne, not-lt, way}
 use Rattle.put.specs.Put.{Wrote, wrote}
-use Rattle.put.specs.declared.Put.TheVariants.{Done, Refused}
 use Rattle.boxes.specs.Header.{header, header_of}
-use Rattle.boxes.specs.declared.header.Found.{Found}
-use Rattle.boxes.specs.declared.header.Found.TheVariants as found
 use Rattle.layout.specs.Rule.{rule_of}
-use Rattle.layout.specs.Read.{Got, got, fault, keep, one, decode, fields_of, faulty_of, headed, read_of, zeros, answer}
+use Rattle.layout.specs.Read.{Got, got, fault, keep, one, decode, fields_of, headed, read_of, zeros, answer}
 use Rattle.layout.specs.Write.{Made, made, bad, encode, full, place, placed, write_of}
 use Rattle.layout.specs.Canonical.{standard, slots, firsts, Canonical, most, limit}
 use Rattle.layout.specs.declared.Field.{Field}
 use Rattle.layout.specs.declared.Field.TheVariants.{Number, Reserved, Wide, Optional, Least, Version, Flags, Nothing}
 use Rattle.layout.specs.declared.rule.Rule.{Rule}
 use Rattle.layout.specs.declared.read.Fields.{Fields}
-use Rattle.layout.proofs.Rests.{either}
 use Rattle.layout.proofs.Writes.{length-full}
 use Rattle.rounds.proofs.Round.{grown, back, forth, kept_same, one-got, keep-got}
+use Rattle.boxes.specs.declared.header.Header.{Header}
 
 -- values stored from slot k on are the first from slot k on
 before : (l : List ℕ) (j i : ℕ) (vs : List ℕ) → i < j → get_or (sets l j vs) i 0 ≡ get_or l i 0
@@ -61,20 +60,20 @@ length_got (f ∷ fs) b at v fl vs e d =
 
 -- the record that a reader gets for these values
 abbrev pub fields_in : ℕ → ℕ → List ℕ → Fields
-fields_in end e vs = record { number = 0; place = e; end = end; values = sets (zeros 24) 0 vs }
+fields_in end e vs = record { place = e; end = end; values = sets (zeros 24) 0 vs }
 
 -- reading a box whose size and type are right
 opens : (kind : ℕ) (fs : List Field) (b vs : List ℕ) (e : ℕ) → 8 ≤ length b → be 4 b 4 ≡ kind → be 4 b 0 ≡ length b → decode fs b 8 0 0 ≡ got vs e →
-    read_of kind fs b ≡ fields_in (length b) e vs
+    read_of kind fs b ≡ Ok (fields_in (length b) e vs)
 opens kind fs b vs e h k s d =
-    let r : found.Is (header kind (length b) 8) ≡ header_of b 0 true =
-    whole 4 b 0 found.Refused _ _ (length b) (omega arith) (sym s)
+    let r : Ok (header kind (length b) 8) ≡ header_of b 0 true =
+    whole 4 b 0 Err _ _ (length b) (omega arith) (sym s)
     (is_ne _ _ _ (length b) 1 (λ z. omega arith)
     (is_ne _ _ _ (length b) 0 (λ z. omega arith)
     (not-lt _ _ _ (length b - 0) (length b) (omega arith)
     (not-lt _ _ _ (length b) 8 h
-    (whole 4 b 4 found.Refused _ _ kind (omega arith) (sym k) refl))))) in
-    let same : fields_of (length (take (length b) b)) (zeros 24) 0 (decode fs (take (length b) b) 8 0 0) ≡ fields_in (length b) e vs =
+    (whole 4 b 4 Err _ _ kind (omega arith) (sym k) refl))))) in
+    let same : fields_of (length (take (length b) b)) (zeros 24) 0 (decode fs (take (length b) b) 8 0 0) ≡ Ok (fields_in (length b) e vs) =
     ap (λ l. fields_of (length l) (zeros 24) 0 (decode fs l 8 0 0)) (take-length b) ∙ ap (fields_of (length b) (zeros 24) 0) d in
     ap (headed kind fs b) (sym r) ∙ sym (is_eq _ _ _ kind kind refl (sym same))
 
@@ -91,7 +90,7 @@ are-bytes (suc w) n zero = mod-lt (n / 256 ^ w) (omega arith)
 are-bytes (suc w) n (suc i) = are-bytes w n i
 
 -- a box that was written, by its answer
-pub placed-done : (kind : ℕ) (tail buf : List ℕ) (m : Made) (n : ℕ) (out : List ℕ) → placed kind tail buf m ≡ wrote (Done n) out →
+pub placed-done : (kind : ℕ) (tail buf : List ℕ) (m : Made) (n : ℕ) (out : List ℕ) → placed kind tail buf m ≡ wrote (Ok n) out →
     (cs : List ℕ) × (m ≡ made cs) × (n ≡ length (full kind cs tail)) × (out ≡ full kind cs tail ++ drop (length (full kind cs tail)) buf) × (length (full kind cs tail) ≤ 4294967295)
 unfolding when
 placed-done kind tail buf bad n out e = let z : ◌≡◌ {A = ℕ} 0 1 = cc in absurd (omega arith)
@@ -101,7 +100,7 @@ placed-done kind tail buf (made cs) n out e = by (ltb 4294967295 (length a)) (lt
     a = full kind cs tail
 
     by : (p q : Bool) → ltb 4294967295 (length a) ≡ p → ltb (length buf) (length a) ≡ q →
-        when p (wrote (Refused (refusal 13 0)) buf) (when q (wrote (Refused (refusal 12 (length a))) buf) (wrote (Done (length a)) (a ++ drop (length a) buf))) ≡ wrote (Done n) out →
+        when p (wrote (Err refusal.Unwritable) buf) (when q (wrote (Err (refusal.TooSmall (length a))) buf) (wrote (Ok (length a)) (a ++ drop (length a) buf))) ≡ wrote (Ok n) out →
         (ds : List ℕ) × (made cs ≡ made ds) × (n ≡ length (full kind ds tail)) × (out ≡ full kind ds tail ++ drop (length (full kind ds tail)) buf) × (length (full kind ds tail) ≤ 4294967295)
     by true q ep eq e = let z : ◌≡◌ {A = ℕ} 0 1 = cc in absurd (omega arith)
     by false true ep eq e = let z : ◌≡◌ {A = ℕ} 0 1 = cc in absurd (omega arith)
@@ -119,7 +118,7 @@ pub record Written (kind : ℕ) (fs : List Field) (xs tail b : List ℕ) : Type 
   pub type : be 4 b 4 ≡ kind
   pub byte : Bytes head
 
-pub written-box : (kind : ℕ) (fs : List Field) (xs tail buf : List ℕ) (n : ℕ) (out : List ℕ) → kind < 4294967296 → write_of kind fs xs tail buf ≡ wrote (Done n) out →
+pub written-box : (kind : ℕ) (fs : List Field) (xs tail buf : List ℕ) (n : ℕ) (out : List ℕ) → kind < 4294967296 → write_of kind fs xs tail buf ≡ wrote (Ok n) out →
     Written kind fs xs tail (take n out)
 written-box kind fs xs tail buf n out hk w =
     let p = placed-done kind tail buf (encode fs xs 0 0 0) n out w in
@@ -145,9 +144,13 @@ written-box kind fs xs tail buf n out hk w =
       byte = joined (bytes 4 total) (bytes 4 kind) (are-bytes 4 total) (are-bytes 4 kind);
     })
 
+-- what was read is one record
+pub same_read : (f g : Fields) → ◌≡◌ {A = Result Fields Refusal} (Ok f) (Ok g) → f ≡ g
+same_read f g e = cc e
+
 -- WHAT IS WRITTEN READS BACK THE SAME: the values, and the tail after them
-pub reads-back : (kind : ℕ) (fs : List Field) (xs tail buf : List ℕ) (n : ℕ) (out : List ℕ) → kind < 4294967296 → write_of kind fs xs tail buf ≡ wrote (Done n) out →
-    (e : ℕ) × (read_of kind fs (take n out) ≡ fields_in (length (take n out)) e (firsts (slots fs) 0 xs)) × (drop e (take n out) ≡ tail) × (e + length tail ≡ length (take n out))
+pub reads-back : (kind : ℕ) (fs : List Field) (xs tail buf : List ℕ) (n : ℕ) (out : List ℕ) → kind < 4294967296 → write_of kind fs xs tail buf ≡ wrote (Ok n) out →
+    (e : ℕ) × (read_of kind fs (take n out) ≡ Ok (fields_in (length (take n out)) e (firsts (slots fs) 0 xs))) × (drop e (take n out) ≡ tail) × (e + length tail ≡ length (take n out))
 reads-back kind fs xs tail buf n out hk w =
     let b = take n out in
     let r = written-box kind fs xs tail buf n out hk w in
@@ -165,35 +168,36 @@ reads-back kind fs xs tail buf n out hk w =
 
 module _ (kind : ℕ) (fs : List Field) (n : ℕ) (b : List ℕ) (c : Canonical kind fs n b) where
   -- how a canonical box is read
-  pub own_read : read_of kind fs b ≡ fields_in (length b) c.end c.values
+  pub own_read : read_of kind fs b ≡ Ok (fields_in (length b) c.end c.values)
   own_read = opens kind fs b c.values c.end c.long c.type c.size c.fields
 
   -- A CANONICAL BOX, READ AND WRITTEN, GIVES ITS OWN BYTES, from any values that are those read, with the n bytes that followed
-  pub own-bytes : (ys buf : List ℕ) → slots fs ≤ 24 → firsts (slots fs) 0 ys ≡ firsts (slots fs) 0 (read_of kind fs b).values → length b ≤ length buf →
-      write_of kind fs ys (drop (read_of kind fs b).place b) buf ≡ wrote (Done (length b)) (b ++ drop (length b) buf)
+  pub own-bytes : (f : Fields) → read_of kind fs b ≡ Ok f → (ys buf : List ℕ) → slots fs ≤ 24 → firsts (slots fs) 0 ys ≡ firsts (slots fs) 0 f.values → length b ≤ length buf →
+      write_of kind fs ys (drop f.place b) buf ≡ wrote (Ok (length b)) (b ++ drop (length b) buf)
   unfolding when
-  own-bytes ys buf hs h hl =
+  own-bytes f r ys buf hs h hl =
+      let own : f ≡ fields_in (length b) c.end c.values = same_read f (fields_in (length b) c.end c.values) (sym r ∙ own_read) in
       let e = c.end in
       let lv : length c.values ≡ slots fs = length_got fs b 8 0 0 c.values e c.fields in
       let same : firsts (slots fs) 0 ys ≡ c.values =
-      h ∙ ap (λ r. firsts (slots fs) 0 r.values) own_read ∙ ap (λ n. firsts n 0 (sets (zeros 24) 0 c.values)) (sym lv)
+      h ∙ ap (λ r. firsts (slots fs) 0 r.values) own ∙ ap (λ n. firsts n 0 (sets (zeros 24) 0 c.values)) (sym lv)
       ∙ pulled c.values (zeros 24) 0 (omega (arith, length-replicate {A = ℕ} 24 0)) in
-      let f = forth fs b 8 0 0 c.values e c.byte c.long c.fields c.reserved ys 0 same in
-      let cs = f.0 in
+      let w = forth fs b 8 0 0 c.values e c.byte c.long c.fields c.reserved ys 0 same in
+      let cs = w.0 in
       let tail = drop e b in
-      let pl : (read_of kind fs b).place ≡ e = ap (λ r. r.place) own_read in
+      let pl : f.place ≡ e = ap (λ r. r.place) own in
       let small : length b < 4294967296 = omega (arith, be-below 4 b 0 c.byte, c.size) in
       let g4 : bytes 4 (length b) ≡ take 4 b = ap (bytes 4) (sym c.size) ∙ grown 4 b 0 c.byte (omega (arith, c.long)) ∙ ap (λ n. take n b) (zero-add 4) in
       let g8 : take 4 b ++ bytes 4 kind ≡ take 8 b = ap (λ k. take 4 b ++ bytes 4 k) (sym c.type) ∙ grown 4 b 4 c.byte c.long in
       let lt : length (take e b ++ tail) ≡ length b = ap length (take-append-drop e b) in
-      let ls : 8 + length cs + length tail ≡ length b = omega (arith, length-append (take e b) tail, ap length f.2, length-append (take 8 b) cs, lt, f.4, length-take-le e b f.3) in
+      let ls : 8 + length cs + length tail ≡ length b = omega (arith, length-append (take e b) tail, ap length w.2, length-append (take 8 b) cs, lt, w.4, length-take-le e b w.3) in
       let a : full kind cs tail ≡ b =
       ap (λ n. bytes 4 n ++ bytes 4 kind ++ cs ++ tail) ls
       ∙ ap (λ l. l ++ bytes 4 kind ++ cs ++ tail) g4
       ∙ ap (λ l. l ++ cs ++ tail) g8
-      ∙ ap (λ l. l ++ tail) f.2 ∙ take-append-drop e b in
+      ∙ ap (λ l. l ++ tail) w.2 ∙ take-append-drop e b in
       ap (λ p. write_of kind fs ys (drop p b) buf) pl
-      ∙ ap (placed kind tail buf) f.1
+      ∙ ap (placed kind tail buf) w.1
       ∙ ap (place buf) a
       ∙ simp (le-ltb 4294967295 (length b) (omega arith), le-ltb (length buf) (length b) hl)
 
@@ -269,57 +273,50 @@ stored-fits (v ∷ vs) l j lim h g k =
     set-fits true k q = same-fits k (ltb j (length l)) refl (eqb-true k j q)
     set-fits false k q = omega (arith, get_or-set_other l j k v 0 (eqb-false k j q), h k)
 
-fields_fit : (end : ℕ) (fs : List Field) (b : List ℕ) (at v fl : ℕ) (g : Got) → decode fs b at v fl ≡ g → (k : ℕ) → get_or (fields_of end (zeros 24) 0 g).values k 0 ≤ limit fs k
-fields_fit end fs b at v fl (got vs e) d k =
-    stored-fits vs (zeros 24) 0 (limit fs) (λ k. omega (arith, zero-at 24 k)) (λ k. omega (arith, got-fits fs b at v fl vs e d k, ap (limit fs) (zero-add k))) k
-fields_fit end fs b at v fl (fault n p) d k = omega (arith, zero-at 24 k)
-
 -- what slot k of a reader's record holds is at most its field's greatest value
-pub fits : (kind : ℕ) (fs : List Field) (b : List ℕ) (k m : ℕ) (r : Fields) → r ≡ read_of kind fs b → limit fs k ≡ m → get_or r.values k 0 ≤ m
-fits kind fs b k m r e l = omega (arith, ap (λ r. get_or r.values k 0) e, all)
+pub fits : (kind : ℕ) (fs : List Field) (b : List ℕ) (k m : ℕ) (f : Fields) → read_of kind fs b ≡ Ok f → limit fs k ≡ m → get_or f.values k 0 ≤ m
+fits kind fs b k m f e l = by (header_of b 0 true) e
   where
-    P : Fields → Type 0
-    P r = get_or r.values k 0 ≤ m
+    in_row : (end : ℕ) (s : List ℕ) (at : ℕ) (g : Got) → decode fs s at 0 0 ≡ g → fields_of end (zeros 24) 0 g ≡ Ok f → get_or f.values k 0 ≤ m
+    in_row end s at (got vs p) d q =
+        let z : f.values ≡ sets (zeros 24) 0 vs = cc q in
+        let h : get_or (sets (zeros 24) 0 vs) k 0 ≤ limit fs k =
+        stored-fits vs (zeros 24) 0 (limit fs) (λ k. omega (arith, zero-at 24 k)) (λ k. omega (arith, got-fits fs s at 0 0 vs p d k, ap (limit fs) (zero-add k))) k in
+        omega (arith, ap (λ l. get_or l k 0) z, h, l)
+    in_row end s at (fault r) d q = let z : ◌≡◌ {A = ℕ} 0 1 = cc q in absurd (omega arith)
 
-    f : (n p : ℕ) → P (faulty_of n p)
-    f n p = omega (arith, zero-at 24 k)
-
-    d : (end : ℕ) (s : List ℕ) (at : ℕ) → P (fields_of end (zeros 24) 0 (decode fs s at 0 0))
-    d end s at = omega (arith, fields_fit end fs s at 0 0 (decode fs s at 0 0) refl k, l)
-
-    by : (h : Found) → P (headed kind fs b h)
-    by (found.Is h) = either P _ _ _ (d (length (take h.size b)) (take h.size b) h.length) (f 8 4)
-    by (found.Refused q) = f q.number q.detail
-
-    all : P (read_of kind fs b)
-    all = by (header_of b 0 true)
+    by : (h : Result Header Refusal) → headed kind fs b h ≡ Ok f → get_or f.values k 0 ≤ m
+    by (Ok h) q =
+        ⊎_elim (λ y. in_row (length (take h.size b)) (take h.size b) h.length (decode fs (take h.size b) h.length 0 0) refl y.1)
+        (λ y. let z : ◌≡◌ {A = ℕ} 0 1 = cc y.1 in absurd (omega arith))
+        (way (eqb h.kind kind) _ _ _ q)
+    by (Err r) q = let z : ◌≡◌ {A = ℕ} 0 1 = cc q in absurd (omega arith)
 
 -- A BOX'S VALUE AS A RECORD: `to` lays it in slots, `from` takes it out of them
-module _ {M : Type 0} {R : Type 0} (is : M → R) (refused : Refusal → R) (from : List ℕ → M) where
-  pub told-no : (g f : Fields) → g ≡ f → (g.number ≡ 0 → ⊥) → refused (refusal g.number g.place) ≡ answer is refused from f
-  unfolding when
-  told-no g f e h = sym (ap (λ t. when t (is (from g.values)) (refused (refusal g.number g.place))) (ne_eqb g.number 0 h)) ∙ ap (answer is refused from) e
-
-  pub told_is : (g f : Fields) → g ≡ f → g.number ≡ 0 → is (from g.values) ≡ answer is refused from f
-  unfolding when
-  told_is g f e h = sym (ap (λ t. when t (is (from g.values)) (refused (refusal g.number g.place))) (eq-eqb g.number 0 h)) ∙ ap (answer is refused from) e
+module _ {M : Type 0} (from : List ℕ → M) where
+  -- the record that a value was made of
+  pub told_from : (r : Result Fields Refusal) (m : M) → answer from r ≡ Ok m → (f : Fields) × (r ≡ Ok f) × (from f.values ≡ m)
+  told_from (Ok f) m e = (f, refl, cc e)
+  told_from (Err q) m e = let z : ◌≡◌ {A = ℕ} 0 1 = cc e in absurd (omega arith)
 
   module _ (to : M → List ℕ) (kind : ℕ) (fs : List Field) where
     pub plain_back : kind < 4294967296 → ((m : M) → from (sets (zeros 24) 0 (firsts (slots fs) 0 (to m))) ≡ m) →
-        (m : M) (buf : List ℕ) (n : ℕ) (out : List ℕ) → write_of kind fs (to m) [] buf ≡ wrote (Done n) out →
-        answer is refused from (read_of kind fs (take n out)) ≡ is m
+        (m : M) (buf : List ℕ) (n : ℕ) (out : List ℕ) → write_of kind fs (to m) [] buf ≡ wrote (Ok n) out →
+        answer from (read_of kind fs (take n out)) ≡ Ok m
     plain_back hk ft m buf n out w =
         let p = reads-back kind fs (to m) [] buf n out hk w in
-        sym (told_is (fields_in (length (take n out)) p.0 (firsts (slots fs) 0 (to m))) (read_of kind fs (take n out)) (sym p.1) refl) ∙ ap is (ft m)
+        ap (answer from) p.1 ∙ ap Ok (ft m)
 
-    pub plain-own : ((a b : M) → is a ≡ is b → a ≡ b) → ((vs : List ℕ) → firsts (slots fs) 0 (to (from vs)) ≡ firsts (slots fs) 0 vs) → slots fs ≤ 24 →
-        (b : List ℕ) → Canonical kind fs 0 b → (m : M) → answer is refused from (read_of kind fs b) ≡ is m → (buf : List ℕ) → length b ≤ length buf →
-        write_of kind fs (to m) [] buf ≡ wrote (Done (length b)) (b ++ drop (length b) buf)
-    plain-own inj tf hs b c m a buf hl =
+    pub plain-own : ((vs : List ℕ) → firsts (slots fs) 0 (to (from vs)) ≡ firsts (slots fs) 0 vs) → slots fs ≤ 24 →
+        (b : List ℕ) → Canonical kind fs 0 b → (m : M) → answer from (read_of kind fs b) ≡ Ok m → (buf : List ℕ) → length b ≤ length buf →
+        write_of kind fs (to m) [] buf ≡ wrote (Ok (length b)) (b ++ drop (length b) buf)
+    plain-own tf hs b c m a buf hl =
         let o = own_read kind fs 0 b c in
-        let f = read_of kind fs b in
-        let q : from f.values ≡ m = inj (from f.values) m (told_is f f refl (ap (λ r. r.number) o) ∙ a) in
-        let e : f.place ≡ length b = ap (λ r. r.place) o ∙ sym (add-zero c.end) ∙ c.rest in
+        let t = told_from (read_of kind fs b) m a in
+        let f = t.0 in
+        let own : f ≡ fields_in (length b) c.end c.values = same_read f (fields_in (length b) c.end c.values) (sym t.1 ∙ o) in
+        let q : from f.values ≡ m = t.2 in
+        let e : f.place ≡ length b = ap (λ r. r.place) own ∙ sym (add-zero c.end) ∙ c.rest in
         let d : drop f.place b ≡ [] = ap (λ n. drop n b) e ∙ drop-length b in
         ap (λ t. write_of kind fs (to m) t buf) (sym d)
-        ∙ own-bytes kind fs 0 b c (to m) buf hs (ap (λ m. firsts (slots fs) 0 (to m)) (sym q) ∙ tf f.values) hl
+        ∙ own-bytes kind fs 0 b c f t.1 (to m) buf hs (ap (λ m. firsts (slots fs) 0 (to m)) (sym q) ∙ tf f.values) hl

@@ -1,4 +1,5 @@
 -- Canonical, decided: the function says what the statement says, and whatever is written is canonical. Assumes nothing.
+use Rattle.std.specs.Prelude.{Result, Ok}
 use mathlib.Core.Path.{◌≡◌, refl, sym, ap, ap₂, ◌∙◌, subst}
 use mathlib.Core.List.{List, [], ◌∷◌, ◌++◌, append_assoc}
 use mathlib.Core.Bool.{Bool, true, false}
@@ -13,7 +14,6 @@ use Rattle.numbers.specs.Field.{when, field, fits}
 use Rattle.numbers.proofs.Laws.{Bytes, be-bytes, length-bytes}
 use Rattle.numbers.proofs.Chain.{whole, is_eq, by-true}
 use Rattle.put.specs.Put.{wrote}
-use Rattle.put.specs.declared.Put.TheVariants.{Done}
 use Rattle.layout.specs.Rule.{rule_of}
 use Rattle.layout.specs.Read.{Got, got, fault, decode}
 use Rattle.layout.specs.Write.{made, encode, write_of}
@@ -25,10 +25,10 @@ use Rattle.layout.proofs.Exact.{exact-step}
 use Rattle.rounds.proofs.Round.{lay-made}
 use Rattle.layout.specs.Table.{write_table}
 use Rattle.rows.specs.Judge.{write_judged}
-use Rattle.rows.specs.declared.Judged.{Judged}
 use Rattle.rounds.proofs.TableBoxes.{as_many}
 use Rattle.rounds.proofs.JudgedBoxes.{sound}
 use Rattle.rounds.proofs.Boxes.{joined, are-bytes, written-box}
+use Rattle.numbers.specs.declared.Refusal.{Refusal}
 
 both : (t x : Bool) → when t x false ≡ true → (t ≡ true) × (x ≡ true)
 unfolding when
@@ -43,7 +43,7 @@ field-true w s at go e =
 
 followed-true : (n : ℕ) (b : List ℕ) (g : Got) → followed n b g ≡ true → (vs : List ℕ) × (e : ℕ) × (g ≡ got vs e) × (e + n ≡ length b)
 followed-true n b (got vs e) h = (vs, e, refl, eqb-true (e + n) (length b) h)
-followed-true n b (fault k p) h = let z : ◌≡◌ {A = ℕ} 0 1 = cc in absurd (omega arith)
+followed-true n b (fault q) h = let z : ◌≡◌ {A = ℕ} 0 1 = cc in absurd (omega arith)
 
 module _ (kind : ℕ) (fs : List Field) (n : ℕ) (b : List ℕ) where
   -- THE FUNCTION DECIDES IT: what it says yes to is canonical, and the other way round
@@ -129,7 +129,7 @@ laid-bytes (f ∷ fs) xs k v fl bs e =
     let ih = laid-bytes fs xs (when r.kept (k + 1) k) (when r.version x v) (when r.flags x fl) i.2.0 i.2.1 in
     subst Bytes (sym i.2.2) (joined (bytes r.width x) i.2.0 (are-bytes r.width x) ih)
 
-module _ (kind : ℕ) (fs : List Field) (xs tail buf : List ℕ) (k : ℕ) (out : List ℕ) (hk : kind < 4294967296) (w : write_of kind fs xs tail buf ≡ wrote (Done k) out) where
+module _ (kind : ℕ) (fs : List Field) (xs tail buf : List ℕ) (k : ℕ) (out : List ℕ) (hk : kind < 4294967296) (w : write_of kind fs xs tail buf ≡ wrote (Ok k) out) where
   -- WHATEVER IS WRITTEN IS CANONICAL
   pub writes-canonical : canonical_of kind fs (length tail) (take k out) ≡ true
   writes-canonical =
@@ -147,12 +147,12 @@ module _ (kind : ℕ) (fs : List Field) (xs tail buf : List ℕ) (k : ℕ) (out 
 
 -- the same of a writer of a table, and of one whose entries are judged: as many bytes follow as the count asks for
 module _ (kind : ℕ) (fs : List Field) (xs : List ℕ) (size : ℕ) (rows buf : List ℕ) (k : ℕ) (out : List ℕ) (hk : kind < 4294967296) where
-  pub table-writes-canonical : write_table kind fs xs size rows buf ≡ wrote (Done k) out → canonical_of kind fs size (take k out) ≡ true
+  pub table-writes-canonical : write_table kind fs xs size rows buf ≡ wrote (Ok k) out → canonical_of kind fs size (take k out) ≡ true
   table-writes-canonical w =
       let p = as_many kind fs xs size rows buf k out w in
       ap (λ n. canonical_of kind fs n (take k out)) (sym p.0) ∙ writes-canonical kind fs xs rows buf k out hk p.1
 
-  pub judged-writes-canonical : (v : Judged) → write_judged kind fs xs size v rows buf ≡ wrote (Done k) out → canonical_of kind fs size (take k out) ≡ true
+  pub judged-writes-canonical : (v : Result (Unit {0}) Refusal) → write_judged kind fs xs size v rows buf ≡ wrote (Ok k) out → canonical_of kind fs size (take k out) ≡ true
   judged-writes-canonical v w =
       let p = sound kind fs xs size v rows buf k out w in
       ap (λ n. canonical_of kind fs n (take k out)) (sym p.0) ∙ writes-canonical kind fs xs rows buf k out hk p.2

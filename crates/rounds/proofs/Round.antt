@@ -13,7 +13,8 @@ use lib.Dec.{ltb, leb, eqb}
 use borrow.Author.Tests.{lt-ltb, le-ltb, ltb-true, ltb-false, eqb-true}
 use Rattle.numbers.specs.Number.{be, bytes}
 use Rattle.numbers.specs.Field.{when}
-use Rattle.layout.specs.Rule.{rule_of}
+use Rattle.numbers.specs.declared.Refusal.TheVariants as refusal
+use Rattle.layout.specs.Rule.{rule_of, refusal_of}
 use Rattle.layout.specs.Read.{Got, got, fault, keep, one, decode}
 use Rattle.layout.specs.Write.{Made, made, bad, after, lay, encode}
 use Rattle.layout.specs.Canonical.{standard, slots, firsts}
@@ -148,7 +149,7 @@ back (f ∷ fs) xs k v fl bs e pre rest =
 pub keep-got : (t : Bool) (x : ℕ) (g : Got) (vs : List ℕ) (e : ℕ) → keep t x g ≡ got vs e → (ws : List ℕ) × (g ≡ got ws e) × (vs ≡ when t (x ∷ ws) ws)
 unfolding when
 keep-got true x (got ws e') vs e h = (ws, let q : got ws e' ≡ got ws e = cc in q, let q : vs ≡ x ∷ ws = cc in q)
-keep-got true x (fault n p) vs e h = let z : ◌≡◌ {A = ℕ} 0 1 = cc in absurd (omega arith)
+keep-got true x (fault q) vs e h = let z : ◌≡◌ {A = ℕ} 0 1 = cc in absurd (omega arith)
 keep-got false x g vs e h = (vs, h, refl)
 
 pub one-got : (r : Rule) (b : List ℕ) (at : ℕ) (go : ℕ → Got) (vs : List ℕ) (e : ℕ) → one r b at go ≡ got vs e →
@@ -160,7 +161,7 @@ one-got r b at go vs e h = by (ltb (length b) (at + r.width)) (ltb x r.low) (ltb
     x = be r.width b at
 
     by : (p q s : Bool) → ltb (length b) (at + r.width) ≡ p → ltb x r.low ≡ q → ltb r.high x ≡ s →
-        when p (fault 1 at) (when q (fault r.number at) (when s (fault r.number at) (keep r.kept x (go x)))) ≡ got vs e →
+        when p (fault (refusal.Cut at)) (when q (fault (refusal_of r at)) (when s (fault (refusal_of r at)) (keep r.kept x (go x)))) ≡ got vs e →
         (at + r.width ≤ length b) × (r.low ≤ x) × (x ≤ r.high) × (keep r.kept x (go x) ≡ got vs e)
     by true q s ep eq es h = let z : ◌≡◌ {A = ℕ} 0 1 = cc in absurd (omega arith)
     by false true s ep eq es h = let z : ◌≡◌ {A = ℕ} 0 1 = cc in absurd (omega arith)

@@ -1,4 +1,5 @@
 -- A verdict on entries that lie in a larger part is the verdict on them alone, with its position moved. Assumes nothing.
+use Rattle.std.specs.Prelude.{Result, Option, Ok, Err, Some, None}
 use mathlib.Core.Path.{◌≡◌, refl, sym, ap, ap₂, ◌∙◌}
 use mathlib.Core.List.{List, [], ◌∷◌}
 use mathlib.Core.Bool.{Bool, true, false}
@@ -10,24 +11,27 @@ use lib.Seq.{get_or-drop}
 use lib.Dec.{leb}
 use borrow.Author.Tests.{le-leb, lt-leb, leb-true, leb-false}
 use Rattle.numbers.specs.Number.{be}
-use Rattle.numbers.specs.Field.{refusal, field, fits, when}
+use Rattle.numbers.specs.Field.{field, fits, when}
+use Rattle.numbers.specs.declared.Refusal.TheVariants as refusal
 use Rattle.numbers.specs.declared.Refusal.{Refusal}
+use Rattle.numbers.specs.Refusals.{position, placed_at}
 use Rattle.numbers.proofs.Chain.{through}
 use Rattle.rows.specs.Rows.{width_of, allowed_of, last_of, cells_of, entry_of, step, entries_of}
 use Rattle.rows.specs.declared.Cell.{Cell}
-use Rattle.rows.specs.declared.Judged.{Judged}
-use Rattle.rows.specs.declared.Judged.TheVariants.{Fine, Wrong}
-use Rattle.rows.specs.declared.Passed.{Passed}
-use Rattle.rows.specs.declared.Passed.TheVariants as entry
+
+-- a refusal, s further on
+abbrev further : ℕ → Option ℕ → Refusal → Refusal
+further s None q = q
+further s (Some p) q = placed_at (s + p) q
 
 -- a verdict, moved
-abbrev pub moved : ℕ → Judged → Judged
-moved s Fine = Fine
-moved s (Wrong q) = Wrong (refusal q.number (s + q.detail))
+abbrev pub moved : ℕ → Result (Unit {0}) Refusal → Result (Unit {0}) Refusal
+moved s (Ok tt) = (Ok tt)
+moved s (Err q) = Err (further s (position q) q)
 
-abbrev on : ℕ → Passed → Passed
-on s (entry.Next at last) = entry.Next (s + at) last
-on s (entry.Wrong q) = entry.Wrong (refusal q.number (s + q.detail))
+abbrev on : ℕ → Result (ℕ × ℕ) Refusal → Result (ℕ × ℕ) Refusal
+on s (Ok (at, last)) = Ok (s + at, last)
+on s (Err q) = Err (further s (position q) q)
 
 -- a number is the same in a part, and so is whether it is whole
 be-drop : (w s : ℕ) (b : List ℕ) (at : ℕ) → be w (drop s b) at ≡ be w b (s + at)
@@ -44,25 +48,25 @@ module _ (s : ℕ) (b : List ℕ) (h : s ≤ length b) where
       by true e = sym (le-leb (at + w) (length (drop s b)) (omega (arith, length-drop s b, leb-true (s + at + w) (length b) e)))
       by false e = sym (lt-leb (at + w) (length (drop s b)) (omega (arith, length-drop s b, leb-false (s + at + w) (length b) e)))
 
-  field-moved : (w at : ℕ) (go go' : ℕ → Passed) → ((x : ℕ) → go x ≡ on s (go' x)) → field entry.Wrong w b (s + at) go ≡ on s (field entry.Wrong w (drop s b) at go')
+  field-moved : (w at : ℕ) (go go' : ℕ → Result (ℕ × ℕ) Refusal) → ((x : ℕ) → go x ≡ on s (go' x)) → field Err w b (s + at) go ≡ on s (field Err w (drop s b) at go')
   unfolding field
   field-moved w at go go' f =
-      ap₂ (λ (t : Bool) (p : Passed). when t p (entry.Wrong (refusal 1 (s + at)))) (fits-drop w at) (f (be w b (s + at)) ∙ ap (λ x. on s (go' x)) (sym (be-drop w s b at)))
-      ∙ sym (through (on s) (fits w (drop s b) at) (go' (be w (drop s b) at)) (entry.Wrong (refusal 1 at)))
+      ap₂ (λ (t : Bool) (p : Result (ℕ × ℕ) Refusal). when t p (Err (refusal.Cut (s + at)))) (fits-drop w at) (f (be w b (s + at)) ∙ ap (λ x. on s (go' x)) (sym (be-drop w s b at)))
+      ∙ sym (through (on s) (fits w (drop s b) at) (go' (be w (drop s b) at)) (Err (refusal.Cut at)))
 
-  cells-moved : (cs : List Cell) (at last : ℕ) → cells_of entry.Wrong cs b (s + at) last entry.Next ≡ on s (cells_of entry.Wrong cs (drop s b) at last entry.Next)
+  cells-moved : (cs : List Cell) (at last : ℕ) → cells_of cs b (s + at) last ≡ on s (cells_of cs (drop s b) at last)
   unfolding cells_of
   cells-moved [] at last = refl
   cells-moved (c ∷ cs) at last =
       field-moved (width_of c) at _ _
       (λ x.
-      ap (λ p. when (allowed_of c last x) p (entry.Wrong (refusal 8 (s + at))))
-      (ap (λ k. cells_of entry.Wrong cs b k (last_of c last x) entry.Next) (add_assoc s at (width_of c)) ∙ cells-moved cs (at + width_of c) (last_of c last x))
-      ∙ sym (through (on s) (allowed_of c last x) (cells_of entry.Wrong cs (drop s b) (at + width_of c) (last_of c last x) entry.Next) (entry.Wrong (refusal 8 at))))
+      ap (λ p. when (allowed_of c last x) p (Err (refusal.Value (s + at))))
+      (ap (λ k. cells_of cs b k (last_of c last x)) (add_assoc s at (width_of c)) ∙ cells-moved cs (at + width_of c) (last_of c last x))
+      ∙ sym (through (on s) (allowed_of c last x) (cells_of cs (drop s b) (at + width_of c) (last_of c last x)) (Err (refusal.Value at))))
 
-  step-moved : (go go' : ℕ → ℕ → Judged) → ((p l : ℕ) → go (s + p) l ≡ moved s (go' p l)) → (v : Passed) → step go (on s v) ≡ moved s (step go' v)
-  step-moved go go' f (entry.Next at last) = f at last
-  step-moved go go' f (entry.Wrong q) = refl
+  step-moved : (go go' : ℕ → ℕ → Result (Unit {0}) Refusal) → ((p l : ℕ) → go (s + p) l ≡ moved s (go' p l)) → (v : Result (ℕ × ℕ) Refusal) → step go (on s v) ≡ moved s (step go' v)
+  step-moved go go' f (Ok (at, last)) = f at last
+  step-moved go go' f (Err q) = refl
 
   pub entries-moved : (n : ℕ) (cells : List Cell) (at last : ℕ) → entries_of n cells b (s + at) last ≡ moved s (entries_of n cells (drop s b) at last)
   unfolding entries_of

@@ -1,14 +1,11 @@
 -- The entries of a table, judged where they lie (A9, A21): each field first whole (1), then allowed (8), at its own
 -- position, entry after entry. Assumes nothing.
-use Rattle.std.specs.Prelude.{ℕ, zero, suc, ◌+◌, min, List, [], ◌∷◌, Bool, true, false, ◌||◌, eqb, ltb, leb}
-use Rattle.numbers.specs.Field.{refusal, field, when}
+use Rattle.std.specs.Prelude.{ℕ, zero, suc, ◌+◌, min, List, [], ◌∷◌, Bool, true, false, ◌||◌, eqb, ltb, leb, Result, Ok, Err}
+use Rattle.numbers.specs.Field.{field, when}
+use Rattle.numbers.specs.declared.Refusal.TheVariants as refusal
 use Rattle.numbers.specs.declared.Refusal.{Refusal}
 use Rattle.rows.specs.declared.Cell.{Cell}
 use Rattle.rows.specs.declared.Cell.TheVariants.{Any, Least, Rising, FromOne, Time, Nothing}
-use Rattle.rows.specs.declared.Judged.{Judged}
-use Rattle.rows.specs.declared.Judged.TheVariants.{Fine, Wrong}
-use Rattle.rows.specs.declared.Passed.{Passed}
-use Rattle.rows.specs.declared.Passed.TheVariants as entry
 
 unfoldable pub width_of : Cell → ℕ
 width_of (Any w) = min w 8
@@ -41,21 +38,21 @@ last_of (FromOne w) last x = x
 last_of (Time w) last x = last
 last_of Nothing last x = last
 
--- the fields of an entry, and on behind them
-unfoldable pub cells_of : {A : Type 0} → (Refusal → A) → List Cell → List ℕ → ℕ → ℕ → (ℕ → ℕ → A) → A
-cells_of wrong [] b at last next = next at last
-cells_of wrong (c ∷ cs) b at last next =
-    field wrong (width_of c) b at
-    (λ x. when (allowed_of c last x) (cells_of wrong cs b (at + width_of c) (last_of c last x) next) (wrong (refusal 8 at)))
+-- the fields of an entry: the position behind them, and the rising number
+unfoldable pub cells_of : List Cell → List ℕ → ℕ → ℕ → Result (ℕ × ℕ) Refusal
+cells_of [] b at last = Ok (at, last)
+cells_of (c ∷ cs) b at last =
+    field Err (width_of c) b at
+    (λ x. when (allowed_of c last x) (cells_of cs b (at + width_of c) (last_of c last x)) (Err (refusal.Value at)))
 
-abbrev pub entry_of : List Cell → List ℕ → ℕ → ℕ → Passed
-entry_of cells b at last = cells_of entry.Wrong cells b at last entry.Next
+abbrev pub entry_of : List Cell → List ℕ → ℕ → ℕ → Result (ℕ × ℕ) Refusal
+entry_of cells b at last = cells_of cells b at last
 
 -- behind an entry
-abbrev pub step : (ℕ → ℕ → Judged) → Passed → Judged
-step go (entry.Next at last) = go at last
-step go (entry.Wrong q) = Wrong q
+abbrev pub step : (ℕ → ℕ → Result (Unit {0}) Refusal) → Result (ℕ × ℕ) Refusal → Result (Unit {0}) Refusal
+step go (Ok (at, last)) = go at last
+step go (Err q) = Err q
 
-unfoldable pub entries_of : ℕ → List Cell → List ℕ → ℕ → ℕ → Judged
-entries_of zero cells b at last = Fine
+unfoldable pub entries_of : ℕ → List Cell → List ℕ → ℕ → ℕ → Result (Unit {0}) Refusal
+entries_of zero cells b at last = (Ok tt)
 entries_of (suc n) cells b at last = step (λ p l. entries_of n cells b p l) (entry_of cells b at last)

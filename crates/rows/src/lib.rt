@@ -1,9 +1,9 @@
-#![tactic(auto)]
+#![tactic(auto, unfolding(numbers::specs::Field::when, numbers::specs::Field::field))]
 // The entries of a table, judged where they lie: each field first whole, then allowed, entry after entry.
 ghost use Rattle.std.specs.Prelude.{◌≡◌, min};
 ghost use Rattle.rows.specs.Rows.{width_of, time_of, allowed_of, last_of, entry_of, entries_of};
 
-use numbers::{Refusal, U64};
+use numbers::Refusal;
 
 // A field of an entry. Widths are in bytes, 8 at most.
 #[derive(Clone, Copy)]
@@ -19,19 +19,6 @@ pub enum Cell {
     // a signed number, -1 or more
     Time(u8),
     Nothing,
-}
-
-#[derive(Clone, Copy)]
-pub enum Judged {
-    Fine,
-    Wrong(Refusal),
-}
-
-// Behind an entry: the position, and the rising number in it.
-#[derive(Clone, Copy)]
-pub enum Passed {
-    Next(usize, u64),
-    Wrong(Refusal),
 }
 
 fn cap(w: u8) -> usize
@@ -91,7 +78,7 @@ fn last_of(cell: Cell, last: u64, x: u64) -> u64
 }
 
 // One entry, at `at`, behind one with this rising number.
-fn entry(b: &[u8], at: usize, cells: [Cell; 4], last: u64) -> Passed
+fn entry(b: &[u8], at: usize, cells: [Cell; 4], last: u64) -> Result<(usize, u64), Refusal>
     ensures { result ≡ entry_of cells b.now at last }
 {
     let mut p = at;
@@ -100,43 +87,29 @@ fn entry(b: &[u8], at: usize, cells: [Cell; 4], last: u64) -> Passed
     while i < 4 {
         let cell = cells[i];
         let width = width_of(cell);
-        let U64::Is(x) = numbers::number_at(b, p, width) else {
-            return Passed::Wrong(Refusal {
-                number: 1,
-                detail: p,
-            });
-        };
+        let x = numbers::number_at(b, p, width)?;
         if !allowed(cell, rising, x) {
-            return Passed::Wrong(Refusal {
-                number: 8,
-                detail: p,
-            });
+            return Err(Refusal::Value(p));
         }
         rising = last_of(cell, rising, x);
         p = p + width;
         i = i + 1;
     }
-    Passed::Next(p, rising)
+    Ok((p, rising))
 }
 
 // n entries from `at` on.
-pub fn judge(b: &[u8], at: usize, n: u32, cells: [Cell; 4]) -> Judged
+pub fn judge(b: &[u8], at: usize, n: u32, cells: [Cell; 4]) -> Result<(), Refusal>
     ensures { result ≡ entries_of n cells b.now at 0 }
 {
     let mut left = n;
     let mut p = at;
     let mut last = 0;
     while 0 < left {
-        match entry(b, p, cells, last) {
-            Passed::Wrong(q) => {
-                return Judged::Wrong(q);
-            }
-            Passed::Next(next, reached) => {
-                p = next;
-                last = reached;
-                left = left - 1;
-            }
-        }
+        let (next, reached) = entry(b, p, cells, last)?;
+        p = next;
+        last = reached;
+        left = left - 1;
     }
-    Judged::Fine
+    Ok(())
 }

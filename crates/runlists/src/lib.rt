@@ -1,21 +1,17 @@
-#![tactic(auto)]
+#![tactic(auto, unfolding(numbers::specs::Field::when, numbers::specs::Field::field))]
 // The samples of a track of a fragmented file, as its runs tell them: all of them as records in a lent buffer.
 ghost use Rattle.std.specs.Prelude.{◌≡◌};
-ghost use Rattle.numbers.specs.Field.{refusal};
 ghost use Rattle.samples.specs.Records.{output, list_of};
-ghost use Rattle.samples.specs.declared.Listed.TheVariants.{Refused};
 ghost use Rattle.lists.specs.Count.{count_of, Filled};
 ghost use Rattle.runtable.specs.Table.{rows_of};
 ghost use Rattle.fragments.specs.Samples.{samples_of_runs};
 
 use fragments::Taken;
-use lists::Counted;
 use numbers::Refusal;
-use samples::Listed;
 
 // The samples one by one: counted, and put into the buffer as far as it has room. One loop serves the count and the
 // listing, so that the lane's step is there once, inside of it.
-fn fill(file: &[u8], table: &[u64], n: usize, track: u32, out: &mut [u64]) -> Counted
+fn fill(file: &[u8], table: &[u64], n: usize, track: u32, out: &mut [u64]) -> Option<usize>
     ensures count { result ≡ count_of (samples_of_runs file.now (rows_of table.now n) track) }
     ensures records { Filled (samples_of_runs file.now (rows_of table.now n) track) out.old out.new }
 {
@@ -24,10 +20,10 @@ fn fill(file: &[u8], table: &[u64], n: usize, track: u32, out: &mut [u64]) -> Co
     loop {
         match fragments::next(file, table, n, track, lane) {
             Taken::End => {
-                return Counted::Is(i);
+                return Some(i);
             }
             Taken::Over => {
-                return Counted::Over;
+                return None;
             }
             Taken::One {
                 sample,
@@ -42,33 +38,30 @@ fn fill(file: &[u8], table: &[u64], n: usize, track: u32, out: &mut [u64]) -> Co
 }
 
 // How many samples there are, where each of them fits: counted one by one, by a buffer that has room for none.
-fn count(file: &[u8], table: &[u64], n: usize, track: u32) -> Counted
+fn count(file: &[u8], table: &[u64], n: usize, track: u32) -> Option<usize>
     ensures { result ≡ count_of (samples_of_runs file.now (rows_of table.now n) track) }
 {
     let mut none = [0u64; 1];
     fill(file, table, n, track, &mut none)
 }
 
-fn refuse(number: u32, detail: usize) -> Listed
-    ensures { result ≡ Refused (refusal number detail) }
-{
-    Listed::Refused(Refusal {
-        number: number,
-        detail: detail,
-    })
-}
-
 // Every sample of the track in the first n rows of the table as a record, one behind the other; or the buffer as it was,
-// and 9 where a sample does not fit, then 12 where the records have no room.
-pub fn list(file: &[u8], table: &[u64], n: usize, track: u32, out: &mut [u64]) -> Listed
+// and Overflow where a sample does not fit, then TooSmall where the records have no room.
+pub fn list(
+    file: &[u8],
+    table: &[u64],
+    n: usize,
+    track: u32,
+    out: &mut [u64],
+) -> Result<usize, Refusal>
     ensures { output result out.new ≡ list_of (samples_of_runs file.now (rows_of table.now n) track) out.old }
 {
-    let Counted::Is(many) = count(file, table, n, track) else {
-        return refuse(9, 0);
+    let Some(many) = count(file, table, n, track) else {
+        return Err(Refusal::Overflow);
     };
     if out.len() / samples::RECORD < many {
-        return refuse(12, many);
+        return Err(Refusal::TooSmall(many));
     }
     fill(file, table, n, track, out);
-    Listed::Done(many)
+    Ok(many)
 }

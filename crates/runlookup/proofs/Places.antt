@@ -1,4 +1,5 @@
 -- The place of a sample by the counts of runs, and the sample at that place. Assumes nothing.
+use Rattle.std.specs.Prelude.{Ok, Err}
 use Prim.Native.Nat.{ℕ, zero, suc, ◌+◌, ◌-◌, ◌≤◌, ◌<◌}
 use mathlib.Core.Path.{◌≡◌, refl, sym, ap, ◌∙◌}
 use mathlib.Core.List.{List, [], ◌∷◌, ◌++◌}
@@ -9,7 +10,8 @@ use lib.Seq.{drop-nil, drop-append-add}
 use lib.Dec.{eqb, ltb}
 use lib.IntN.{ℤ}
 use borrow.Author.Tests.{ltb-true, ltb-false}
-use Rattle.numbers.specs.Field.{refusal, when}
+use Rattle.numbers.specs.Field.{when}
+use Rattle.numbers.specs.declared.Refusal.TheVariants as refusal
 use Rattle.numbers.proofs.Chain.{is_lt, not-lt, by-true, by-false}
 use Rattle.samples.specs.Lists.{view, located, first_of, lookup_of}
 use Rattle.samples.specs.declared.Sample.{Sample}
@@ -23,7 +25,6 @@ use Rattle.fragments.proofs.Cases.{length-mine}
 use Rattle.runlookup.specs.Lookup.{place_in}
 use Rattle.runlookup.specs.declared.Place.{Place}
 use Rattle.runlookup.specs.declared.Place.TheVariants.{At, Missing}
-use Rattle.samples.specs.declared.Found.TheVariants as found
 use Rattle.runs.specs.Lane as run
 use Rattle.runs.specs.declared.Taken.TheVariants as taken
 
@@ -112,7 +113,7 @@ module _ (f : List ℕ) (rs : List Run) (t m : ℕ) where
   by_first : (s : Sample) (l k : List Sample) → first_of m (s ∷ l) ≡ first_of m (s ∷ k)
   by_first s l k = refl
 
-  pub none-of-0 : m ≡ 0 → found.Refused (refusal 11 0) ≡ lookup_of (samples_of_runs f rs t) m
+  pub none-of-0 : m ≡ 0 → Err (refusal.NoSample 0) ≡ lookup_of (samples_of_runs f rs t) m
   unfolding lookup_of
   none-of-0 e = sym (ap (lookup_of (samples_of_runs f rs t)) e)
 
@@ -120,24 +121,24 @@ module _ (f : List ℕ) (rs : List Run) (t m : ℕ) where
     is_at : at_place (first_of m) by_first f p ≡ lookup_of (samples_of_runs f rs t) m
     is_at = ap (at_place (first_of m) by_first f) e ∙ sym (by_place (first_of m) by_first f t 0 (m - 1) rs) ∙ sym (lookup-is (samples_of_runs f rs t) m h)
 
-    pub no_place : p ≡ Missing → found.Refused (refusal 11 m) ≡ lookup_of (samples_of_runs f rs t) m
+    pub no_place : p ≡ Missing → Err (refusal.NoSample m) ≡ lookup_of (samples_of_runs f rs t) m
     no_place g = sym (ap (at_place (first_of m) by_first f) g) ∙ is_at
 
     module _ (r : Run) (b j : ℕ) (g : p ≡ At r b j) (s : Taken) (es : run.shows f r s ≡ view (drop j (run_samples f r b))) where
       here : first_of m (drop j (run_samples f r b)) ≡ lookup_of (samples_of_runs f rs t) m
       here = sym (ap (at_place (first_of m) by_first f) g) ∙ is_at
 
-      pub place_end : s ≡ taken.End → found.Refused (refusal 11 m) ≡ lookup_of (samples_of_runs f rs t) m
+      pub place_end : s ≡ taken.End → Err (refusal.NoSample m) ≡ lookup_of (samples_of_runs f rs t) m
       place_end q = sym (ap (first_of m) (view-none (drop j (run_samples f r b)) (sym (ap (run.shows f r) q) ∙ es))) ∙ here
 
       pub place-one : (x : Sample) (l : Lane) (c : ℤ) → s ≡ taken.One x l → c ≡ x.composition
-          → found.Is (record { offset = x.offset; size = x.size; time = x.time; duration = x.duration; composition = c }) ≡ lookup_of (samples_of_runs f rs t) m
+          → Ok (record { offset = x.offset; size = x.size; time = x.time; duration = x.duration; composition = c }) ≡ lookup_of (samples_of_runs f rs t) m
       place-one x l c q ec =
           let v = view-one x (run.left f r l) (drop j (run_samples f r b)) (sym (ap (run.shows f r) q) ∙ es) in
-          ap (λ (z : ℤ). found.Is (record { offset = x.offset; size = x.size; time = x.time; duration = x.duration; composition = z })) ec
-          ∙ by-true (found.Is (located x)) (found.Refused (refusal 9 0)) _ _ v.1 refl ∙ sym (ap (first_of m) v.0) ∙ here
+          ap (λ (z : ℤ). Ok (record { offset = x.offset; size = x.size; time = x.time; duration = x.duration; composition = z })) ec
+          ∙ by-true (Ok (located x)) (Err refusal.Overflow) _ _ v.1 refl ∙ sym (ap (first_of m) v.0) ∙ here
 
-      pub place-over : s ≡ taken.Over → found.Refused (refusal 9 0) ≡ lookup_of (samples_of_runs f rs t) m
+      pub place-over : s ≡ taken.Over → Err refusal.Overflow ≡ lookup_of (samples_of_runs f rs t) m
       place-over q =
           let v = view-over (drop j (run_samples f r b)) (sym (ap (run.shows f r) q) ∙ es) in
-          by-false (found.Is (located v.head)) (found.Refused (refusal 9 0)) _ _ v.not-held refl ∙ sym (ap (first_of m) v.is) ∙ here
+          by-false (Ok (located v.head)) (Err refusal.Overflow) _ _ v.not-held refl ∙ sym (ap (first_of m) v.is) ∙ here

@@ -1,18 +1,16 @@
 -- A count of samples or of bytes in 64 bits. Of the rest no public promise speaks: the bytes of runs, which are those of
 -- their samples (`bytes-of-samples`, proofs/Counts.antt), and the place of a sample by the counts of runs, where the sample
 -- of that number is (`by_place`, proofs/Places.antt). Assumes nothing.
-use Rattle.std.specs.Prelude.{ℕ, ◌+◌, ◌-◌, ◌^◌, List, [], ◌∷◌, eqb, ltb}
+use Rattle.std.specs.Prelude.{ℕ, ◌+◌, ◌-◌, ◌^◌, List, [], ◌∷◌, eqb, ltb, Option, Some, None}
 use Rattle.numbers.specs.Field.{when}
 use Rattle.runs.specs.Samples.{bytes_in}
 use Rattle.runs.specs.declared.Run.{Run}
 use Rattle.fragments.specs.Samples.{count_of}
-use Rattle.runlookup.specs.declared.Tally.{Tally}
-use Rattle.runlookup.specs.declared.Tally.TheVariants as tally
 use Rattle.runlookup.specs.declared.Place.{Place}
 use Rattle.runlookup.specs.declared.Place.TheVariants.{At, Missing}
 
-abbrev pub counted : ℕ → Tally
-counted n = when (ltb n (2 ^ 64)) (tally.Is n) tally.Over
+abbrev pub counted : ℕ → Option ℕ
+counted n = when (ltb n (2 ^ 64)) (Some n) None
 
 -- the bytes of the track's samples in a run, and in runs
 unfoldable pub bytes_of_run : List ℕ → ℕ → Run → ℕ

@@ -1,4 +1,4 @@
-#![tactic(auto)]
+#![tactic(auto, unfolding(numbers::specs::Field::when, numbers::specs::Field::field))]
 // How many samples a track of a fragmented file has, one of them by its number, and whether it is sync: the rows are walked
 // by their counts, then, for the sample, those of one run.
 ghost use Rattle.std.specs.Prelude.{◌≡◌, drop};
@@ -10,19 +10,11 @@ ghost use Rattle.runtable.specs.Table.{rows_of};
 ghost use Rattle.fragments.specs.Samples.{count_of, count_in, samples_of_runs};
 ghost use Rattle.runlookup.specs.Lookup.{counted, place_in};
 
-use lookup::Synced;
 use numbers::Refusal;
 use runs::Run;
-use samples::{Found, Located};
+use samples::Located;
 
 const LAST: u64 = 0xFFFF_FFFF_FFFF_FFFF;
-
-// A number of samples or of bytes, or that it passes 2^64 - 1.
-#[derive(Clone, Copy)]
-pub enum Tally {
-    Is(u64),
-    Over,
-}
 
 // How many samples of the track a run has.
 fn count_of(run: Run, track: u32) -> u32
@@ -36,23 +28,23 @@ fn count_of(run: Run, track: u32) -> u32
 }
 
 // How many samples the track has in the first n rows of the table.
-pub fn count(table: &[u64], n: usize, track: u32) -> Tally
+pub fn count(table: &[u64], n: usize, track: u32) -> Option<u64>
     ensures { result ≡ counted (count_in track (rows_of table.now n)) }
 {
     let mut many = 0;
     let mut i = 0;
     while i < n {
-        let runtable::Found::Is(run) = runtable::row(table, i) else {
-            return Tally::Is(many);
+        let Some(run) = runtable::row(table, i) else {
+            return Some(many);
         };
         let more = count_of(run, track) as u64;
         if LAST - many < more {
-            return Tally::Over;
+            return None;
         }
         many += more;
         i += 1;
     }
-    Tally::Is(many)
+    Some(many)
 }
 
 // A sample's place: its run, how many samples of the track come before the run, and how many in it.
@@ -69,13 +61,13 @@ fn place_of(table: &[u64], n: usize, track: u32, skip: u32) -> Place
     let mut left = skip;
     let mut i = 0;
     while i < n {
-        let runtable::Found::Is(run) = runtable::row(table, i) else {
+        let Some(run) = runtable::row(table, i) else {
             return Place::Missing;
         };
         let own = count_of(run, track);
         if left < own {
             return Place::At {
-                run: run,
+                run,
                 earlier: skip - left,
                 index: left,
             };
@@ -116,67 +108,60 @@ fn nth(file: &[u8], run: Run, earlier: u32, index: u32) -> runs::Taken
     runs::next(file, run, lane)
 }
 
-// The sample of that number, counted from 1; 11 with the number where there is none, 9 where it does not fit (A14).
-pub fn sample(file: &[u8], table: &[u64], n: usize, track: u32, number: u32) -> Found
+// The sample of that number, counted from 1; NoSample with the number where there is none, Overflow where it does not fit
+// (A14).
+pub fn sample(
+    file: &[u8],
+    table: &[u64],
+    n: usize,
+    track: u32,
+    number: u32,
+) -> Result<Located, Refusal>
     ensures { result ≡ lookup_of (samples_of_runs file.now (rows_of table.now n) track) number }
 {
     if number == 0 {
-        return Found::Refused(Refusal {
-            number: 11,
-            detail: 0,
-        });
+        return Err(Refusal::NoSample(0));
     }
-    let wide = number as usize;
     match place_of(table, n, track, number - 1) {
-        Place::Missing => Found::Refused(Refusal {
-            number: 11,
-            detail: wide,
-        }),
+        Place::Missing => Err(Refusal::NoSample(number as usize)),
         Place::At {
             run,
             earlier,
             index,
         } => match nth(file, run, earlier, index) {
-            runs::Taken::One { sample, lane } => Found::Is(Located {
+            runs::Taken::One { sample, lane } => Ok(Located {
                 offset: sample.offset,
                 size: sample.size,
                 time: sample.time,
                 duration: sample.duration,
                 composition: sample.composition,
             }),
-            runs::Taken::Over => Found::Refused(Refusal {
-                number: 9,
-                detail: 0,
-            }),
-            runs::Taken::End => Found::Refused(Refusal {
-                number: 11,
-                detail: wide,
-            }),
+            runs::Taken::Over => Err(Refusal::Overflow),
+            runs::Taken::End => Err(Refusal::NoSample(number as usize)),
         },
     }
 }
 
-// Whether the sample of that number is sync, counted from 1, fit or not; 11 with the number where there is none.
-pub fn is_sync(file: &[u8], table: &[u64], n: usize, track: u32, number: u32) -> Synced
+// Whether the sample of that number is sync, counted from 1, fit or not; NoSample with the number where there is none.
+pub fn is_sync(
+    file: &[u8],
+    table: &[u64],
+    n: usize,
+    track: u32,
+    number: u32,
+) -> Result<bool, Refusal>
     ensures { result ≡ sync_of (samples_of_runs file.now (rows_of table.now n) track) number }
 {
     if number == 0 {
-        return Synced::Refused(Refusal {
-            number: 11,
-            detail: 0,
-        });
+        return Err(Refusal::NoSample(0));
     }
-    let wide = number as usize;
     let skip = number - 1;
     match place_of(table, n, track, skip) {
-        Place::Missing => Synced::Refused(Refusal {
-            number: 11,
-            detail: wide,
-        }),
+        Place::Missing => Err(Refusal::NoSample(number as usize)),
         Place::At {
             run,
             earlier,
             index,
-        } => Synced::Is(runs::sync_at(file, run, index)),
+        } => Ok(runs::sync_at(file, run, index)),
     }
 }

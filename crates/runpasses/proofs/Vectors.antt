@@ -1,5 +1,6 @@
 -- Worked examples of the definition: case 7 of document 01, and runs of samples that are empty, last no time or do not
 -- fit. The files and tables with names of other crates are those crates' own examples. Assumes nothing.
+use Rattle.std.specs.Prelude.{Some, None}
 use Prim.Native.Nat.{ℕ}
 use mathlib.Core.Path.{◌≡◌, refl}
 use mathlib.Core.List.{[], ◌++◌}
@@ -14,7 +15,6 @@ use Rattle.runs.specs.declared.Run.{Run}
 use Rattle.runtable.specs.Table.{numbers_of, row_at, rows_of}
 use Rattle.fragments.specs.Samples.{count_of, mine, samples_of_runs}
 use Rattle.passes.specs.Passed.{passed_of, of_sample}
-use Rattle.verdicts.specs.declared.Asked.TheVariants as asked
 use Rattle.passes.specs.declared.Passed.{Passed}
 use Rattle.passes.specs.declared.Passed.TheVariants.{Over, Fine, Found}
 use Rattle.runpasses.specs.Walk.{after_sample, told_of}
@@ -78,24 +78,24 @@ found-then-over = refl
 -- STEPS
 
 -- F3 of the sample before comes before F2 of this one, and the first finding stays
-step-idle : after_sample asked.Passes 7 true 4 5 0 ≡ asked.Found (of_sample 3 7 4)
+step-idle : after_sample None 7 true 4 5 0 ≡ Some (of_sample 3 7 4)
 unfolding after_sample when
 step-idle = refl
 
-step-empty : after_sample asked.Passes 7 false 4 5 0 ≡ asked.Found (of_sample 2 7 5)
+step-empty : after_sample None 7 false 4 5 0 ≡ Some (of_sample 2 7 5)
 unfolding after_sample when
 step-empty = refl
 
-step-fine : after_sample asked.Passes 7 false 4 5 10 ≡ asked.Passes
+step-fine : after_sample None 7 false 4 5 10 ≡ None
 unfolding after_sample when
 step-fine = refl
 
-step-found : after_sample (asked.Found (of_sample 2 7 1)) 7 true 4 5 0 ≡ asked.Found (of_sample 2 7 1)
+step-found : after_sample (Some (of_sample 2 7 1)) 7 true 4 5 0 ≡ Some (of_sample 2 7 1)
 unfolding after_sample
 step-found = refl
 
-told-fine : told_of 5 asked.Passes ≡ Fine 5
+told-fine : told_of 5 None ≡ Fine 5
 told-fine = refl
 
-told-found : told_of 5 (asked.Found (of_sample 2 7 1)) ≡ Found (of_sample 2 7 1)
+told-found : told_of 5 (Some (of_sample 2 7 1)) ≡ Found (of_sample 2 7 1)
 told-found = refl

@@ -1,4 +1,4 @@
-#![tactic(auto)]
+#![tactic(auto, unfolding(numbers::specs::Field::when, numbers::specs::Field::field))]
 // The audit's pass over the samples of a track of a fragmented file: whether each of them fits, then F2 and F3, sample by
 // sample. One walk over the runs, to their end, since a sample behind a finding may not fit.
 ghost use Rattle.std.specs.Prelude.{◌≡◌};
@@ -9,35 +9,38 @@ ghost use Rattle.runpasses.specs.Walk.{after_sample, told_of};
 
 use fragments::Taken;
 use passes::Passed;
-use verdicts::Asked;
 
 // What is found up to a sample of that number and size: the finding that there was; else F3 of the sample before it, which
 // came as number `before`, where that one is idle, since another follows it now; else F2 of this one.
-fn after_sample(so: Asked, track: u32, idle: bool, before: u32, number: u32, size: u32) -> Asked
+fn after_sample(
+    so: Option<verdicts::Finding>,
+    track: u32,
+    idle: bool,
+    before: u32,
+    number: u32,
+    size: u32,
+) -> Option<verdicts::Finding>
     ensures { result ≡ after_sample so track idle before number size }
 {
-    match so {
-        Asked::Found(x) => {
-            return Asked::Found(x);
-        }
-        Asked::Passes => {}
+    if let Some(x) = so {
+        return Some(x);
     }
     if idle {
-        return Asked::Found(passes::finding(3, track, before));
+        return Some(passes::finding(3, track, before));
     }
     if size == 0 {
-        return Asked::Found(passes::finding(2, track, number));
+        return Some(passes::finding(2, track, number));
     }
-    Asked::Passes
+    None
 }
 
 // What was found in so many samples.
-fn told(so: Asked, n: usize) -> Passed
+fn told(so: Option<verdicts::Finding>, n: usize) -> Passed
     ensures { result ≡ told_of n so }
 {
     match so {
-        Asked::Found(x) => Passed::Found(x),
-        Asked::Passes => Passed::Fine(n),
+        Some(x) => Passed::Found(x),
+        None => Passed::Fine(n),
     }
 }
 
@@ -47,7 +50,7 @@ pub fn runs(file: &[u8], table: &[u64], n: usize, track: u32) -> Passed
     ensures { result ≡ passed_of track (samples_of_runs file.now (rows_of table.now n) track) }
 {
     let mut lane = fragments::start();
-    let mut so = Asked::Passes;
+    let mut so = None;
     let mut idle = false;
     let mut i: usize = 0;
     loop {

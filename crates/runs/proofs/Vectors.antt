@@ -1,4 +1,5 @@
 -- Worked examples of the definitions, computed. Assumes nothing.
+use Rattle.std.specs.Prelude.{Ok, Some, None}
 use Prim.Native.Nat.{ℕ}
 use mathlib.Core.Path.{◌≡◌, refl}
 use mathlib.Core.List.{List, [], ◌∷◌, ◌++◌}
@@ -19,9 +20,7 @@ use Rattle.runs.specs.Samples.{sample_at, run_samples, bytes_in, end_of, duratio
 use Rattle.runs.specs.Lane.{left}
 use Rattle.runs.specs.declared.Run.{Run}
 use Rattle.runs.specs.declared.Lane.{Lane}
-use Rattle.runs.specs.declared.DataEnd.TheVariants.{At, Over}
 use Rattle.samples.specs.Lists as list
-use Rattle.trun.specs.declared.Found.TheVariants as trun
 
 -- CASE 7: a traf whose tfdt is 9,000 and whose three samples last 3,000 each, as its bytes
 
@@ -44,7 +43,7 @@ file = tfhd-bytes ++ tfdt-bytes ++ trun-bytes
 abbrev pub three : Trun
 three = record { version = 0; flags = 0x305; sample_count = 3; data_offset = 200; first_sample_flags = 0x200_0000 }
 
-run-read : trun_of trun-bytes ≡ trun.Is three 24
+run-read : trun_of trun-bytes ≡ Ok (three, 24)
 unfolding be bytes field when rule_of one decode cut_of
 run-read = refl
 
@@ -70,7 +69,7 @@ case-7-next : time_after file run ≡ 18000
 unfolding be bytes field when optional signed own_of duration_at durations_in
 case-7-next = refl
 
-case-7-end : end_of file run ≡ At 1260
+case-7-end : end_of file run ≡ Some 1260
 unfolding be bytes field when optional signed own_of size_at bytes_in
 case-7-end = refl
 
@@ -139,10 +138,10 @@ lane-end = refl
 abbrev far : Run
 far = record { track = 7; start = 0xffff_ffff_ffff_fff5; time = 0; at = 0; trun = record { version = 0; flags = 0; sample_count = 2; data_offset = 0; first_sample_flags = 0 }; duration = 4; size = 5; flags = 0 }
 
-end-held : end_of [] far ≡ At 0xffff_ffff_ffff_ffff
+end-held : end_of [] far ≡ Some 0xffff_ffff_ffff_ffff
 unfolding be bytes field when optional signed own_of size_at bytes_in
 end-held = refl
 
-end-over : end_of [] (record { track = 7; start = 0xffff_ffff_ffff_fff6; time = 0; at = 0; trun = record { version = 0; flags = 0; sample_count = 2; data_offset = 0; first_sample_flags = 0 }; duration = 4; size = 5; flags = 0 }) ≡ Over
+end-over : end_of [] (record { track = 7; start = 0xffff_ffff_ffff_fff6; time = 0; at = 0; trun = record { version = 0; flags = 0; sample_count = 2; data_offset = 0; first_sample_flags = 0 }; duration = 4; size = 5; flags = 0 }) ≡ None
 unfolding be bytes field when optional signed own_of size_at bytes_in
 end-over = refl

@@ -1,13 +1,11 @@
 -- The samples of a run (ISO/IEC 14496-12, 8.8.8): each begins where the one before ends, in the file and in time. Every
 -- sum is in ℕ, without limit. Assumes nothing.
-use Rattle.std.specs.Prelude.{ℕ, zero, suc, ◌+◌, List, [], ◌∷◌, ltb}
+use Rattle.std.specs.Prelude.{ℕ, zero, suc, ◌+◌, List, [], ◌∷◌, ltb, Option, Some, None}
 use Rattle.numbers.specs.Field.{when}
 use Rattle.samples.specs.Lists.{end_bound}
 use Rattle.samples.specs.declared.Sample.{Sample}
 use Rattle.runs.specs.Values.{own_of, duration_at, size_at, flags_at, sync_by}
 use Rattle.runs.specs.declared.Run.{Run}
-use Rattle.runs.specs.declared.DataEnd.{DataEnd}
-use Rattle.runs.specs.declared.DataEnd.TheVariants.{At, Over}
 
 -- the i-th sample of the run, of that number, at that place and time
 unfoldable pub sample_at : List ℕ → Run → ℕ → ℕ → ℕ → ℕ → Sample
@@ -43,10 +41,10 @@ bytes_in f r = sum_from (size_at f r) r.trun.sample_count 0
 abbrev pub end_at : List ℕ → Run → ℕ
 end_at f r = r.start + bytes_in f r
 
-abbrev pub end_by : ℕ → DataEnd
-end_by n = when (ltb n end_bound) (At n) Over
+abbrev pub end_by : ℕ → Option ℕ
+end_by n = when (ltb n end_bound) (Some n) None
 
-abbrev pub end_of : List ℕ → Run → DataEnd
+abbrev pub end_of : List ℕ → Run → Option ℕ
 end_of f r = end_by (end_at f r)
 
 -- how long a run's samples last together, and the time after it: that at which the track's next run is to begin

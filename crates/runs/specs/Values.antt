@@ -1,18 +1,17 @@
 -- The values of a run's samples (ISO/IEC 14496-12, 8.8.8): a sample's own where the trun's flag is set, else the run's.
 -- An entry that the file does not hold whole says zeros of its sample: no trun that was read has one, only a run that
 -- was made up. Assumes nothing.
-use Rattle.std.specs.Prelude.{ℕ, List, Bool, true, false, drop, pos, eqb}
+use Rattle.std.specs.Prelude.{ℕ, List, Bool, true, false, drop, pos, eqb, Result, Ok, Err}
 use Rattle.numbers.specs.Field.{when}
 use Rattle.layout.specs.Rule.{is_set}
 use Rattle.trun.specs.Trun.{entry_of, first_flags_bit, duration_bit, size_bit, flags_bit}
 use Rattle.trun.specs.declared.Sample.{Sample}
-use Rattle.trun.specs.declared.Listed.{Listed}
-use Rattle.trun.specs.declared.Listed.TheVariants.{Is, Refused}
 use Rattle.runs.specs.declared.Run.{Run}
+use Rattle.numbers.specs.declared.Refusal.{Refusal}
 
-abbrev pub or_zeros : Listed → Sample
-or_zeros (Is s) = s
-or_zeros (Refused q) = record { duration = 0; size = 0; flags = 0; composition_offset = pos 0 }
+abbrev pub or_zeros : Result Sample Refusal → Sample
+or_zeros (Ok s) = s
+or_zeros (Err q) = record { duration = 0; size = 0; flags = 0; composition_offset = pos 0 }
 
 -- what the i-th sample says of itself, counted from 0
 unfoldable pub own_of : List ℕ → Run → ℕ → Sample

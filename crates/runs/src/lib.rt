@@ -1,4 +1,4 @@
-#![tactic(auto)]
+#![tactic(auto, unfolding(numbers::specs::Field::when, numbers::specs::Field::field))]
 // One run of samples of a fragmented file (ISO/IEC 14496-12, 8.8.8), walked sample by sample. A sample's own values are
 // read where the trun lies in the file; what it does not say of itself comes from the run.
 ghost use Rattle.std.specs.Prelude.{◌≡◌, drop};
@@ -7,7 +7,7 @@ ghost use Rattle.runs.specs.Values.{own_of, flags_by, flags_at, sync_by};
 ghost use Rattle.runs.specs.Lane.{begun, left, shows, up_to, up_to_by};
 
 use samples::{LAST, Sample, TIME_BOUND};
-use trun::{Listed, Trun};
+use trun::Trun;
 
 // The last number of a sample.
 const LAST_NUMBER: u32 = 0xFFFF_FFFF;
@@ -54,8 +54,8 @@ pub fn own(file: &[u8], run: Run, i: u32) -> trun::Sample
 {
     let trun = run.trun;
     match trun::entry(trun, from(file, run.at), i) {
-        Listed::Is(s) => s,
-        Listed::Refused(_) => trun::Sample {
+        Ok(s) => s,
+        Err(_) => trun::Sample {
             duration: 0,
             size: 0,
             flags: 0,
@@ -111,7 +111,7 @@ pub struct Lane {
     pub time: u64,
 }
 
-// Over: a sample's end passes 2^64 - 1, its time is 2^63 or more, or its number passes 2^32 - 1 (refusal 9).
+// Over: a sample's end passes 2^64 - 1, its time is 2^63 or more, or its number passes 2^32 - 1.
 #[derive(Clone, Copy)]
 pub enum Taken {
     One { sample: Sample, lane: Lane },
@@ -125,7 +125,7 @@ pub fn begin(run: Run, number: u32) -> Lane
 {
     Lane {
         index: 0,
-        number: number,
+        number,
         offset: run.start,
         time: run.time,
     }
@@ -159,26 +159,19 @@ pub fn next(file: &[u8], run: Run, lane: Lane) -> Taken
     let number = lane.number + 1;
     Taken::One {
         sample: Sample {
-            number: number,
+            number,
             offset: lane.offset,
-            size: size,
+            size,
             time: lane.time,
-            duration: duration,
+            duration,
             composition: mine.composition_offset,
             sync: is_sync(flags),
         },
         lane: Lane {
             index: i + 1,
-            number: number,
+            number,
             offset: lane.offset + wide,
             time: lane.time + (duration as u64),
         },
     }
-}
-
-// Where a run's data end, or that they pass 2^64 - 1.
-#[derive(Clone, Copy)]
-pub enum DataEnd {
-    At(u64),
-    Over,
 }

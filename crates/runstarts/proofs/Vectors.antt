@@ -1,9 +1,11 @@
 -- Worked examples of the definitions, computed. Assumes nothing.
+use Rattle.std.specs.Prelude.{Ok, Err}
 use Prim.Native.Nat.{ℕ}
 use mathlib.Core.Path.{◌≡◌, refl}
 use mathlib.Core.Bool.{true, false}
 use Rattle.numbers.specs.Number.{be, bytes}
-use Rattle.numbers.specs.Field.{refusal, field, when}
+use Rattle.numbers.specs.Field.{field, when}
+use Rattle.numbers.specs.declared.Refusal.TheVariants as refusal
 use Rattle.signed.specs.Signed.{signed}
 use Rattle.layout.specs.Rule.{rule_of}
 use Rattle.layout.specs.Read.{one, decode}
@@ -16,9 +18,6 @@ use Rattle.trun.specs.declared.Trun.{Trun}
 use Rattle.runs.specs.declared.Run.{Run}
 use Rattle.runs.proofs.Vectors.{tfhd-bytes, tfdt-bytes, three, run}
 use Rattle.runstarts.specs.Make.{base_of, make_of}
-use Rattle.runstarts.specs.declared.Made.TheVariants.{Is, Refused}
-use Rattle.tfhd.specs.declared.Found.TheVariants as tfhd
-use Rattle.tfdt.specs.declared.Found.TheVariants as tfdt
 
 -- CASE 7: the traf whose run is a worked example of `runs`
 
@@ -31,16 +30,16 @@ defaults = record { version = 0; flags = 0; track_id = 7; default_sample_descrip
 abbrev time : Tfdt
 time = record { version = 0; flags = 0; base_media_decode_time = 9000 }
 
-header_read : tfhd_of tfhd-bytes ≡ tfhd.Is header
+header_read : tfhd_of tfhd-bytes ≡ Ok header
 unfolding be bytes field when rule_of one decode
 header_read = refl
 
-time-read : tfdt_of tfdt-bytes ≡ tfdt.Is time
+time-read : tfdt_of tfdt-bytes ≡ Ok time
 unfolding be bytes field when rule_of one decode
 time-read = refl
 
 -- the moof begins at 1,000, where the header says that the base is: tfhd's flags, trex's duration and size
-made : make_of header defaults time three 60 (base_of header 1000 false 5000) ≡ Is run
+made : make_of header defaults time three 60 (base_of header 1000 false 5000) ≡ Ok run
 unfolding when signed
 made = refl
 
@@ -70,29 +69,29 @@ abbrev run-of : ℕ → ℕ → ℕ → Run
 run-of flags offset start = record { track = 7; start = start; time = 9000; at = 0; trun = trun-of flags offset; duration = 40; size = 50; flags = 60 }
 
 -- no data offset: at the base
-no-offset : make_of (plain 0) defaults time (trun-of 0 8) 0 5000 ≡ Is (run-of 0 8 5000)
+no-offset : make_of (plain 0) defaults time (trun-of 0 8) 0 5000 ≡ Ok (run-of 0 8 5000)
 unfolding when signed
 no-offset = refl
 
 -- a data offset of -8; and one that reaches below 0
-back : make_of (plain 0) defaults time (trun-of 1 0xffff_fff8) 0 5000 ≡ Is (run-of 1 0xffff_fff8 4992)
+back : make_of (plain 0) defaults time (trun-of 1 0xffff_fff8) 0 5000 ≡ Ok (run-of 1 0xffff_fff8 4992)
 unfolding when signed
 back = refl
 
-below : make_of (plain 0) defaults time (trun-of 1 0xffff_fff8) 0 7 ≡ Refused (refusal 9 0)
+below : make_of (plain 0) defaults time (trun-of 1 0xffff_fff8) 0 7 ≡ Err refusal.Overflow
 unfolding when signed
 below = refl
 
 -- above 2^64 - 1, though there are no samples
-above : make_of (plain 0) defaults time (trun-of 1 8) 0 0xffff_ffff_ffff_fff8 ≡ Refused (refusal 9 0)
+above : make_of (plain 0) defaults time (trun-of 1 8) 0 0xffff_ffff_ffff_fff8 ≡ Err refusal.Overflow
 unfolding when signed
 above = refl
 
-late : make_of (plain 0) defaults (record { version = 1; flags = 0; base_media_decode_time = 0x8000_0000_0000_0000 }) (trun-of 0 0) 0 0 ≡ Refused (refusal 9 0)
+late : make_of (plain 0) defaults (record { version = 1; flags = 0; base_media_decode_time = 0x8000_0000_0000_0000 }) (trun-of 0 0) 0 0 ≡ Err refusal.Overflow
 unfolding when signed
 late = refl
 
 -- tfhd's duration, size and flags beat trex's
-by-header : make_of (plain 0x38) defaults time (trun-of 0 0) 0 5000 ≡ Is (record { track = 7; start = 5000; time = 9000; at = 0; trun = trun-of 0 0; duration = 4; size = 5; flags = 6 })
+by-header : make_of (plain 0x38) defaults time (trun-of 0 0) 0 5000 ≡ Ok (record { track = 7; start = 5000; time = 9000; at = 0; trun = trun-of 0 0; duration = 4; size = 5; flags = 6 })
 unfolding when signed
 by-header = refl

@@ -1,4 +1,4 @@
-#![tactic(auto)]
+#![tactic(auto, unfolding(numbers::specs::Field::when, numbers::specs::Field::field))]
 // What a run of samples begins with (ISO/IEC 14496-12, 8.8.7 and 8.8.8), from the boxes that tell of it: the base of its
 // data offset, where its data begin, its time, and the values of samples that do not say their own.
 ghost use Rattle.std.specs.Prelude.{◌≡◌};
@@ -26,19 +26,6 @@ const MOOF_BIT: u32 = 0x20000;
 // The flag of trun.
 const DATA_OFFSET_BIT: u32 = 0x1;
 
-#[derive(Clone, Copy)]
-pub enum Made {
-    Is(Run),
-    Refused(Refusal),
-}
-
-// Where a run's data begin: in the file's positions, or not.
-#[derive(Clone, Copy)]
-enum Start {
-    At(u64),
-    Outside,
-}
-
 // What a traf's data offsets count from: tfhd's own base, else the moof's start, where tfhd says so or the traf is the
 // first of its moof, else the end of the traf before (A38).
 pub fn base(tfhd: Tfhd, moof: u64, first: bool, previous: u64) -> u64
@@ -54,50 +41,51 @@ pub fn base(tfhd: Tfhd, moof: u64, first: bool, previous: u64) -> u64
 }
 
 // A base and the 32 bits of a signed offset together.
-fn moved(base: u64, offset: u32) -> Start
+fn moved(base: u64, offset: u32) -> Option<u64>
     ensures { result ≡ placed base offset }
 {
     if offset < 0x8000_0000 {
         let ahead = offset as u64;
         if LAST - base < ahead {
-            return Start::Outside;
+            return None;
         }
-        return Start::At(base + ahead);
+        return Some(base + ahead);
     }
     let back = 0x1_0000_0000 - (offset as u64);
     if base < back {
-        return Start::Outside;
+        return None;
     }
-    Start::At(base - back)
+    Some(base - back)
 }
 
 // Where the run's data begin: at the base, or as far from it as the trun says.
-fn start_of(trun: Trun, base: u64) -> Start
+fn start_of(trun: Trun, base: u64) -> Option<u64>
     ensures { result ≡ start_of trun base }
 {
     if bits::is_set(trun.flags, DATA_OFFSET_BIT) {
         return moved(base, trun.data_offset);
     }
-    Start::At(base)
+    Some(base)
 }
 
-// The run of a traf, whose trun's entries begin at `at` in the file. 9 where its data begin outside of the file's
+// The run of a traf, whose trun's entries begin at `at` in the file. Overflow where its data begin outside of the file's
 // positions, or its time is 2^63 or more (A13).
-pub fn make(tfhd: Tfhd, trex: Trex, tfdt: Tfdt, trun: Trun, at: usize, base: u64) -> Made
+pub fn make(
+    tfhd: Tfhd,
+    trex: Trex,
+    tfdt: Tfdt,
+    trun: Trun,
+    at: usize,
+    base: u64,
+) -> Result<Run, Refusal>
     ensures { result ≡ make_of tfhd trex tfdt trun at base }
 {
     let time = tfdt.base_media_decode_time;
     if TIME_BOUND <= time {
-        return Made::Refused(Refusal {
-            number: 9,
-            detail: 0,
-        });
+        return Err(Refusal::Overflow);
     }
-    let Start::At(start) = start_of(trun, base) else {
-        return Made::Refused(Refusal {
-            number: 9,
-            detail: 0,
-        });
+    let Some(start) = start_of(trun, base) else {
+        return Err(Refusal::Overflow);
     };
     let set = tfhd.flags;
     let duration = bits::chosen(
@@ -118,14 +106,14 @@ pub fn make(tfhd: Tfhd, trex: Trex, tfdt: Tfdt, trun: Trun, at: usize, base: u64
         tfhd.default_sample_flags,
         trex.default_sample_flags,
     );
-    Made::Is(Run {
+    Ok(Run {
         track: tfhd.track_id,
-        start: start,
-        time: time,
-        at: at,
-        trun: trun,
-        duration: duration,
-        size: size,
-        flags: flags,
+        start,
+        time,
+        at,
+        trun,
+        duration,
+        size,
+        flags,
     })
 }

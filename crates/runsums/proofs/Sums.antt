@@ -1,4 +1,5 @@
 -- Sums of a run's values, one after the other and all at once. Assumes nothing.
+use Rattle.std.specs.Prelude.{Some, None}
 use Prim.Native.Nat.{ℕ, zero, suc, ◌+◌, ◌-◌, ◌*◌, ◌^◌, ◌≤◌, ◌<◌}
 use mathlib.Core.Path.{◌≡◌, refl, sym, ap, ◌∙◌}
 use mathlib.Core.List.{List}
@@ -11,7 +12,6 @@ use Rattle.trun.specs.Trun.{duration_bit, size_bit}
 use Rattle.runs.specs.Values.{own_of, duration_at, size_at}
 use Rattle.runs.specs.Samples.{sum_from, bytes_in, end_by, durations_in}
 use Rattle.runs.specs.declared.Run.{Run}
-use Rattle.runs.specs.declared.DataEnd.TheVariants.{At, Over}
 
 module _ (g : ℕ → ℕ) where
   pub sum-next : (n i : ℕ) → i < n → sum_from g (n - i) i ≡ g i + sum_from g (n - (i + 1)) (i + 1)
@@ -36,11 +36,11 @@ product a b h g =
     omega (arith, e)
 
 module _ (n : ℕ) where
-  pub ends_at : (m : ℕ) → m ≡ n → m < 2 ^ 64 → At m ≡ end_by n
-  ends_at m e h = ap At e ∙ is_lt _ _ (At n) n (2 ^ 64) (omega arith) refl
+  pub ends_at : (m : ℕ) → m ≡ n → m < 2 ^ 64 → Some m ≡ end_by n
+  ends_at m e h = ap Some e ∙ is_lt _ _ (Some n) n (2 ^ 64) (omega arith) refl
 
-  pub ends-over : 2 ^ 64 ≤ n → Over ≡ end_by n
-  ends-over h = not-lt (At n) _ Over n (2 ^ 64) h refl
+  pub ends-over : 2 ^ 64 ≤ n → None ≡ end_by n
+  ends-over h = not-lt (Some n) _ None n (2 ^ 64) h refl
 
 module _ (f : List ℕ) (r : Run) where
   -- a default size, as often as there are samples

@@ -1,10 +1,10 @@
-#![tactic(auto)]
+#![tactic(auto, unfolding(numbers::specs::Field::when, numbers::specs::Field::field))]
 // The sums of a run's samples (ISO/IEC 14496-12, 8.8.8): where their data end, and how long they last.
 ghost use Rattle.std.specs.Prelude.{◌≡◌, ◌+◌};
 ghost use Rattle.runs.specs.Values.{duration_at, size_at};
 ghost use Rattle.runs.specs.Samples.{bytes_in, end_by, end_of, durations_in};
 
-use runs::{DataEnd, Run};
+use runs::Run;
 use samples::LAST;
 
 const DURATION_BIT: u32 = 0x100;
@@ -21,7 +21,7 @@ fn size_at(file: &[u8], run: Run, i: u32) -> u32
 }
 
 // What follows a position and all sizes, one after the other.
-fn end_by_one(file: &[u8], run: Run, from: u64) -> DataEnd
+fn end_by_one(file: &[u8], run: Run, from: u64) -> Option<u64>
     ensures { result ≡ end_by (from + bytes_in file.now run) }
 {
     let trun = run.trun;
@@ -31,16 +31,16 @@ fn end_by_one(file: &[u8], run: Run, from: u64) -> DataEnd
     while i < count {
         let size = size_at(file, run, i) as u64;
         if LAST - at < size {
-            return DataEnd::Over;
+            return None;
         }
         at += size;
         i += 1;
     }
-    DataEnd::At(at)
+    Some(at)
 }
 
 // What follows a position and all sizes of the run.
-pub fn reach(file: &[u8], run: Run, from: u64) -> DataEnd
+pub fn reach(file: &[u8], run: Run, from: u64) -> Option<u64>
     ensures { result ≡ end_by (from + bytes_in file.now run) }
 {
     let trun = run.trun;
@@ -49,13 +49,13 @@ pub fn reach(file: &[u8], run: Run, from: u64) -> DataEnd
     }
     let all = (trun.sample_count as u64) * (run.size as u64);
     if LAST - from < all {
-        return DataEnd::Over;
+        return None;
     }
-    DataEnd::At(from + all)
+    Some(from + all)
 }
 
 // Where the run's data end: its start and all sizes.
-pub fn end(file: &[u8], run: Run) -> DataEnd
+pub fn end(file: &[u8], run: Run) -> Option<u64>
     ensures { result ≡ end_of file.now run }
 {
     let start = run.start;

@@ -1,4 +1,3 @@
-pub mod Stored
 pub mod Back
 pub mod Vectors
 mod Unique

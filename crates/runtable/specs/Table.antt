@@ -1,13 +1,11 @@
 -- Runs in a lent table of numbers: a row of twelve numbers for each, one row behind the other. Assumes nothing.
-use Rattle.std.specs.Prelude.{ℕ, ◌+◌, ◌*◌, ◌/◌, ◌%◌, ◌^◌, min, List, [], ◌∷◌, length, get_or, ltb}
+use Rattle.std.specs.Prelude.{ℕ, ◌+◌, ◌*◌, ◌/◌, ◌%◌, ◌^◌, min, List, [], ◌∷◌, length, get_or, ltb, Option, Ok, Err, Some, None}
 use Rattle.std.proofs.lemmas.List.Edits.{sets}
-use Rattle.numbers.specs.Field.{refusal, when}
+use Rattle.numbers.specs.Field.{when}
+use Rattle.numbers.specs.declared.Refusal.TheVariants as refusal
 use Rattle.put.specs.Put.{Wrote, wrote}
-use Rattle.put.specs.declared.Put.TheVariants.{Done, Refused}
 use Rattle.tables.specs.Tables.{listed}
 use Rattle.runs.specs.declared.Run.{Run}
-use Rattle.runtable.specs.declared.Found.{Found}
-use Rattle.runtable.specs.declared.Found.TheVariants.{Is, Missing}
 
 abbrev pub row_length : ℕ
 row_length = 12
@@ -43,16 +41,16 @@ row_at t i = record {
   flags = low t i 11;
 }
 
-abbrev pub row_of : List ℕ → ℕ → Found
-row_of t i = when (ltb i (holds t)) (Is (row_at t i)) Missing
+abbrev pub row_of : List ℕ → ℕ → Option Run
+row_of t i = when (ltb i (holds t)) (Some (row_at t i)) None
 
 -- the first n rows, or as many as the table holds
 abbrev pub rows_of : List ℕ → ℕ → List Run
 rows_of t n = listed (row_at t) (min n (holds t))
 
--- r as row i, and the number of the row after it; 12 with the number of rows needed where there is no room, or 9 where
--- that is no 64-bit number, and the table stays
+-- r as row i, and the number of the row after it; where there is no room, the number of rows needed, if 64 bits hold it,
+-- and the table stays
 abbrev pub store_of : Run → ℕ → List ℕ → Wrote
 store_of r i t =
-    when (ltb i (holds t)) (wrote (Done (i + 1)) (sets t (i * row_length) (numbers_of r)))
-    (when (ltb (i + 1) (2 ^ 64)) (wrote (Refused (refusal 12 (i + 1))) t) (wrote (Refused (refusal 9 0)) t))
+    when (ltb i (holds t)) (wrote (Ok (i + 1)) (sets t (i * row_length) (numbers_of r)))
+    (when (ltb (i + 1) (2 ^ 64)) (wrote (Err (refusal.TooSmall (i + 1))) t) (wrote (Err refusal.Overflow) t))

@@ -1,4 +1,4 @@
-#![tactic(auto)]
+#![tactic(auto, unfolding(numbers::specs::Field::when, numbers::specs::Field::field))]
 // Runs as rows of numbers in a lent table, since that is what can be lent: a row for each run of a file, of all tracks, in
 // the order of the file.
 ghost use Rattle.std.specs.Prelude.{◌≡◌, ◌+◌, ◌%◌, ◌^◌, ◌≤◌, length};
@@ -7,7 +7,6 @@ ghost use Rattle.put.specs.Put.{wrote};
 ghost use Rattle.runtable.specs.Table.{row_of, store_of};
 
 use numbers::Refusal;
-use put::Put;
 use runs::Run;
 use trun::Trun;
 
@@ -16,12 +15,6 @@ use trun::Trun;
 pub const ROW: usize = 12;
 
 const LAST: usize = 0xffff_ffff_ffff_ffff;
-
-#[derive(Clone, Copy)]
-pub enum Found {
-    Is(Run),
-    Missing,
-}
 
 // The lower 32 bits: so every table means one thing.
 fn low(n: u64) -> u32
@@ -38,11 +31,12 @@ fn lowest(n: u64) -> u8
 }
 
 // The run of row i, counted from 0, where the table holds it whole.
-pub fn row(table: &[u64], i: usize) -> Found
+#[tactic(auto, unfolding(numbers::specs::Field::when, numbers::specs::Field::field, crate::specs::Table::row_at))]
+pub fn row(table: &[u64], i: usize) -> Option<Run>
     ensures { result ≡ row_of table.now i }
 {
     if table.len() / ROW <= i {
-        return Found::Missing;
+        return None;
     }
     let at = i * ROW;
     let trun = Trun {
@@ -52,12 +46,12 @@ pub fn row(table: &[u64], i: usize) -> Found
         data_offset: low(table[at + 7]),
         first_sample_flags: low(table[at + 8]),
     };
-    Found::Is(Run {
+    Some(Run {
         track: low(table[at]),
         start: table[at + 1],
         time: table[at + 2],
         at: table[at + 3] as usize,
-        trun: trun,
+        trun,
         duration: low(table[at + 9]),
         size: low(table[at + 10]),
         flags: low(table[at + 11]),
@@ -76,22 +70,16 @@ fn copy(table: &mut [u64], at: usize, part: &[u64])
     }
 }
 
-// The run as row i, and the number of the row after it; 12 with the number of rows that are needed where there is no
-// room, or 9 where that is no 64-bit number.
-pub fn store(table: &mut [u64], i: usize, run: Run) -> Put
+// The run as row i, and the number of the row after it; TooSmall with the number of rows that are needed where there is no
+// room, or Overflow where that is no 64-bit number.
+pub fn store(table: &mut [u64], i: usize, run: Run) -> Result<usize, Refusal>
     ensures { wrote result table.new ≡ store_of run i table.old }
 {
     if table.len() / ROW <= i {
         if i == LAST {
-            return Put::Refused(Refusal {
-                number: 9,
-                detail: 0,
-            });
+            return Err(Refusal::Overflow);
         }
-        return Put::Refused(Refusal {
-            number: 12,
-            detail: i + 1,
-        });
+        return Err(Refusal::TooSmall(i + 1));
     }
     let at = i * ROW;
     let after = i + 1;
@@ -111,5 +99,5 @@ pub fn store(table: &mut [u64], i: usize, run: Run) -> Put
         run.flags as u64,
     ];
     copy(table, at, &cells);
-    Put::Done(after)
+    Ok(after)
 }

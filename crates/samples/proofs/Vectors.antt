@@ -1,15 +1,15 @@
 -- Worked examples of the definitions: a sample as a record, and what a list of samples answers. Assumes nothing.
+use Rattle.std.specs.Prelude.{Ok, Err}
 use mathlib.Core.Path.{◌≡◌, refl}
 use mathlib.Core.List.{[], ◌∷◌}
 use mathlib.Core.Bool.{true, false}
 use lib.ListN.{replicate}
 use lib.IntN.{pos, negsuc}
-use Rattle.numbers.specs.Field.{refusal, when}
+use Rattle.numbers.specs.Field.{when}
+use Rattle.numbers.specs.declared.Refusal.TheVariants as refusal
 use Rattle.samples.specs.Lists.{held, lookup_of, bytes_of}
 use Rattle.samples.specs.Records.{put_of, output, list_of}
 use Rattle.samples.specs.declared.Sample.{Sample}
-use Rattle.samples.specs.declared.Found.TheVariants as found
-use Rattle.samples.specs.declared.Listed.TheVariants as listed
 
 -- its composition offset is -2
 abbrev sample : Sample
@@ -45,33 +45,33 @@ unfolding put_of when
 case-no-room = refl
 
 case-list : list_of (sample ∷ last ∷ []) (replicate 14 9)
-    ≡ output (listed.Done 2) (2 ∷ 58 ∷ 20 ∷ 1000 ∷ 1000 ∷ 0xffff_ffff_ffff_fffe ∷ 1 ∷ 3 ∷ 0xffff_ffff_ffff_fff0 ∷ 15 ∷ 0x7fff_ffff_ffff_ffff ∷ 1 ∷ 0 ∷ 0 ∷ [])
+    ≡ output (Ok 2) (2 ∷ 58 ∷ 20 ∷ 1000 ∷ 1000 ∷ 0xffff_ffff_ffff_fffe ∷ 1 ∷ 3 ∷ 0xffff_ffff_ffff_fff0 ∷ 15 ∷ 0x7fff_ffff_ffff_ffff ∷ 1 ∷ 0 ∷ 0 ∷ [])
 unfolding when
 case-list = refl
 
 -- 9 comes before 12
-case-list-long : list_of (sample ∷ long ∷ []) [] ≡ output (listed.Refused (refusal 9 0)) []
+case-list-long : list_of (sample ∷ long ∷ []) [] ≡ output (Err refusal.Overflow) []
 unfolding when
 case-list-long = refl
 
-case-list-small : list_of (sample ∷ last ∷ []) (replicate 13 9) ≡ output (listed.Refused (refusal 12 2)) (replicate 13 9)
+case-list-small : list_of (sample ∷ last ∷ []) (replicate 13 9) ≡ output (Err (refusal.TooSmall 2)) (replicate 13 9)
 unfolding when
 case-list-small = refl
 
 -- the second of two is found, though the first does not fit; a third is not there, nor is a zeroth
-case-second : lookup_of (long ∷ sample ∷ []) 2 ≡ found.Is (record { offset = 58; size = 20; time = 1000; duration = 1000; composition = negsuc 1 })
+case-second : lookup_of (long ∷ sample ∷ []) 2 ≡ Ok (record { offset = 58; size = 20; time = 1000; duration = 1000; composition = negsuc 1 })
 unfolding lookup_of when
 case-second = refl
 
-case-first : lookup_of (long ∷ sample ∷ []) 1 ≡ found.Refused (refusal 9 0)
+case-first : lookup_of (long ∷ sample ∷ []) 1 ≡ Err refusal.Overflow
 unfolding lookup_of when
 case-first = refl
 
-case-third : lookup_of (long ∷ sample ∷ []) 3 ≡ found.Refused (refusal 11 3)
+case-third : lookup_of (long ∷ sample ∷ []) 3 ≡ Err (refusal.NoSample 3)
 unfolding lookup_of when
 case-third = refl
 
-case-zeroth : lookup_of (long ∷ sample ∷ []) 0 ≡ found.Refused (refusal 11 0)
+case-zeroth : lookup_of (long ∷ sample ∷ []) 0 ≡ Err (refusal.NoSample 0)
 unfolding lookup_of when
 case-zeroth = refl
 

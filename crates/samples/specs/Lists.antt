@@ -1,11 +1,11 @@
 -- What is asked of a list of samples, whatever told it: the first that does not fit, one by its number, the bytes of
 -- all. Every number is in ℕ, without limit. Assumes nothing.
-use Rattle.std.specs.Prelude.{ℕ, zero, suc, ◌+◌, ◌^◌, List, [], ◌∷◌, Bool, true, ◌&&◌, drop, ltb}
-use Rattle.numbers.specs.Field.{refusal, when}
+use Rattle.std.specs.Prelude.{ℕ, zero, suc, ◌+◌, ◌^◌, List, [], ◌∷◌, Bool, true, ◌&&◌, drop, ltb, Result, Ok, Err}
+use Rattle.numbers.specs.Field.{when}
+use Rattle.numbers.specs.declared.Refusal.TheVariants as refusal
 use Rattle.samples.specs.declared.Sample.{Sample}
 use Rattle.samples.specs.declared.Located.{Located}
-use Rattle.samples.specs.declared.Found.{Found}
-use Rattle.samples.specs.declared.Found.TheVariants.{Is, Refused}
+use Rattle.numbers.specs.declared.Refusal.{Refusal}
 
 -- a sample's end is below the first of these, and its time below the second (A13, 1 and 3), else refusal 9; its number
 -- has 32 bits, which only runs can pass, and 01's limit of 65,536 samples keeps them from it
@@ -35,13 +35,13 @@ abbrev pub located : Sample → Located
 located s = record { offset = s.offset; size = s.size; time = s.time; duration = s.duration; composition = s.composition }
 
 -- the first of the samples from number k on
-abbrev pub first_of : ℕ → List Sample → Found
-first_of k [] = Refused (refusal 11 k)
-first_of k (s ∷ l) = when (held s) (Is (located s)) (Refused (refusal 9 0))
+abbrev pub first_of : ℕ → List Sample → Result Located Refusal
+first_of k [] = Err (refusal.NoSample k)
+first_of k (s ∷ l) = when (held s) (Ok (located s)) (Err refusal.Overflow)
 
 -- the sample of that number, counted from 1: 11 with the number where there is none, 9 where it does not fit (A14)
-unfoldable pub lookup_of : List Sample → ℕ → Found
-lookup_of l zero = Refused (refusal 11 0)
+unfoldable pub lookup_of : List Sample → ℕ → Result Located Refusal
+lookup_of l zero = Err (refusal.NoSample 0)
 lookup_of l (suc n) = first_of (suc n) (drop n l)
 
 -- the bytes of all samples

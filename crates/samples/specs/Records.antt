@@ -1,11 +1,11 @@
 -- A list of samples in a lent buffer: a record of seven numbers for each, one behind the other. Assumes nothing.
-use Rattle.std.specs.Prelude.{ℕ, ◌+◌, ◌-◌, ◌*◌, ◌^◌, List, [], ◌∷◌, ◌++◌, Bool, true, false, length, leb, ltb, ℤ, pos, negsuc}
+use Rattle.std.specs.Prelude.{ℕ, ◌+◌, ◌-◌, ◌*◌, ◌^◌, List, [], ◌∷◌, ◌++◌, Bool, true, false, length, leb, ltb, ℤ, pos, negsuc, Result, Ok, Err}
 use Rattle.std.proofs.lemmas.List.Edits.{sets}
-use Rattle.numbers.specs.Field.{refusal, when}
+use Rattle.numbers.specs.Field.{when}
+use Rattle.numbers.specs.declared.Refusal.TheVariants as refusal
 use Rattle.samples.specs.Lists.{all_held}
 use Rattle.samples.specs.declared.Sample.{Sample}
-use Rattle.samples.specs.declared.Listed.{Listed}
-use Rattle.samples.specs.declared.Listed.TheVariants.{Done, Refused}
+use Rattle.numbers.specs.declared.Refusal.{Refusal}
 
 -- the 64 bits of a signed number, in two's complement
 abbrev pub bits_of : ℤ → ℕ
@@ -33,12 +33,12 @@ put_of o i s = when (leb (i * record-length + record-length) (length o)) (sets o
 
 -- an answer, with the buffer as it is left
 pub data Output : Type 0 where
-  output : Listed → List ℕ → Output
+  output : Result ℕ Refusal → List ℕ → Output
 
 -- 9 where a sample does not fit; 12 with the number of records where they have no room (A61); else every sample, and
 -- what lies past them stays
 abbrev pub list_of : List Sample → List ℕ → Output
 list_of l o =
     when (all_held l)
-    (when (leb (length l * record-length) (length o)) (output (Done (length l)) (sets o 0 (records_of l))) (output (Refused (refusal 12 (length l))) o))
-    (output (Refused (refusal 9 0)) o)
+    (when (leb (length l * record-length) (length o)) (output (Ok (length l)) (sets o 0 (records_of l))) (output (Err (refusal.TooSmall (length l))) o))
+    (output (Err refusal.Overflow) o)

@@ -1,4 +1,4 @@
-#![tactic(auto)]
+#![tactic(auto, unfolding(numbers::specs::Field::when, numbers::specs::Field::field))]
 // A sample of a track, wherever it is told: by tables or by runs; and a list of samples as a row of numbers, since that
 // is what can be lent.
 ghost use Rattle.std.specs.Prelude.{◌≡◌};
@@ -27,20 +27,6 @@ pub struct Located {
     pub time: u64,
     pub duration: u32,
     pub composition: i64,
-}
-
-// A sample by its number, or the refusal.
-#[derive(Clone, Copy)]
-pub enum Found {
-    Is(Located),
-    Refused(Refusal),
-}
-
-// How many samples were listed, or the refusal.
-#[derive(Clone, Copy)]
-pub enum Listed {
-    Done(usize),
-    Refused(Refusal),
 }
 
 // How many numbers a record has: number, offset, size, time, duration, composition offset, sync.

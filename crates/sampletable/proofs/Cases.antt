@@ -1,4 +1,5 @@
 -- What is asked of a table, table by table. Assumes nothing.
+use Rattle.std.specs.Prelude.{Result, Ok, Err}
 use Prim.Native.Nat.{ℕ, ◌-◌, ◌*◌, ◌/◌}
 use mathlib.Core.Path.{◌≡◌, refl, sym, ap, ◌∙◌}
 use mathlib.Core.List.{List, []}
@@ -8,11 +9,10 @@ use mathlib.Core.Logic.{⊎_elim}
 use lib.ListN.{length}
 use lib.Seq.{sets}
 use lib.Dec.{eqb, leb}
-use Rattle.numbers.specs.Field.{refusal, when}
+use Rattle.numbers.specs.Field.{when}
+use Rattle.numbers.specs.declared.Refusal.TheVariants as refusal
 use Rattle.numbers.proofs.Chain.{way, by-true, by-false, is_ne}
 use Rattle.put.specs.Put.{Wrote, wrote}
-use Rattle.put.specs.declared.Put.{Put}
-use Rattle.put.specs.declared.Put.TheVariants.{Done, Refused}
 use Rattle.places.specs.Kinds as kinds
 use Rattle.columns.specs.declared.Rule.TheVariants.{Zero, Narrow, Signed}
 use Rattle.columns.specs.Columns.{column_of, lows_of, all_meet}
@@ -25,6 +25,7 @@ use Rattle.sampletable.specs.declared.Table.{Table}
 use Rattle.sampletable.specs.declared.Table.TheVariants.{Stts, Ctts, Stsc, Stsz, Offsets, Stss}
 use Rattle.sampletable.specs.SampleTable.{wide_in, list_of, fits_in, per_of, kind_of, is_there, first_of}
 use Rattle.sampletable.specs.Inside.{Ready, told_by, entries_in}
+use Rattle.numbers.specs.declared.Refusal.{Refusal}
 
 module _ (t : Table) (scale : ℕ) (rs : List ℕ) (n : ℕ) (o : List ℕ) (x : Wrote) where
   pub by-stts : t ≡ Stts → x ≡ builder.stts_of rs n o → x ≡ entries_in t scale rs n o
@@ -131,13 +132,13 @@ module _ (scale : ℕ) (rs : List ℕ) (n : ℕ) (g : Ready scale rs n) (o : Lis
   ready-placed Stss = sym (built rs n true (builder.syncs_in rs n) o _ g.there g.counted refl refl)
 
 -- the length that it tells is that of the entries
-pub told-length : (ns o q : List ℕ) (r : Put) (k : ℕ) → wrote r q ≡ placed_of ns o → k ≡ told_by r → k ≡ length ns * 4
+pub told-length : (ns o q : List ℕ) (r : Result ℕ Refusal) (k : ℕ) → wrote r q ≡ placed_of ns o → k ≡ told_by r → k ≡ length ns * 4
 unfolding placed_of
 told-length ns o q r k e f =
     ⊎_elim
-    (λ y. let a : r ≡ Done (length ns * 4) = put_of _ _ _ _ y.1 in f ∙ ap told_by a)
-    (λ y. let a : r ≡ Refused (refusal 12 (length ns * 4)) = put_of _ _ _ _ y.1 in f ∙ ap told_by a)
-    (way (leb (length ns * 4) (length o)) (wrote (Done (length ns * 4)) (sets o 0 (words_of ns))) (wrote (Refused (refusal 12 (length ns * 4))) o) (wrote r q) (sym e))
+    (λ y. let a : r ≡ Ok (length ns * 4) = put_of _ _ _ _ y.1 in f ∙ ap told_by a)
+    (λ y. let a : r ≡ Err (refusal.TooSmall (length ns * 4)) = put_of _ _ _ _ y.1 in f ∙ ap told_by a)
+    (way (leb (length ns * 4) (length o)) (wrote (Ok (length ns * 4)) (sets o 0 (words_of ns))) (wrote (Err (refusal.TooSmall (length ns * 4))) o) (wrote r q) (sym e))
   where
-    put_of : (a b : Put) (x y : List ℕ) → wrote a x ≡ wrote b y → b ≡ a
+    put_of : (a b : Result ℕ Refusal) (x y : List ℕ) → wrote a x ≡ wrote b y → b ≡ a
     put_of a b x y h = cc

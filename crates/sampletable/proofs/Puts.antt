@@ -1,4 +1,5 @@
 -- Numbers put one behind the other, and a table's box. Assumes nothing.
+use Rattle.std.specs.Prelude.{Result, Ok}
 use Prim.Native.Nat.{ℕ, ◌+◌, ◌-◌, ◌*◌, ◌/◌, ◌^◌, ◌≤◌, ◌<◌}
 use mathlib.Core.Path.{◌≡◌, refl, sym, ap, ap₂, subst, ◌∙◌}
 use mathlib.Core.List.{List, [], ◌∷◌, ◌++◌, append_assoc, append-nil}
@@ -13,8 +14,6 @@ use Rattle.numbers.specs.Field.{when}
 use Rattle.numbers.proofs.Laws.{length-bytes}
 use Rattle.numbers.proofs.Chain.{by-true, by-false, is_le}
 use Rattle.put.specs.Put.{wrote, put_of}
-use Rattle.put.specs.declared.Put.{Put}
-use Rattle.put.specs.declared.Put.TheVariants.{Done}
 use Rattle.put.proofs.Stores.{sets-append}
 use Rattle.put.proofs.Placed.{done}
 use Rattle.tables.proofs.Lists.{length-list}
@@ -29,6 +28,7 @@ use Rattle.sampletable.specs.declared.Table.TheVariants.{Stts, Ctts, Stsc, Stsz,
 use Rattle.sampletable.specs.SampleTable.{wide_in, list_of, kind_of, is_there, first_of, second_of, head_of, table_of, tables_of, box_of}
 use Rattle.sampletable.specs.Inside.{entries_in, behind_of, before_of, Ready, Puts, HasRoom}
 use Rattle.sampletable.proofs.Cases.{ready-placed}
+use Rattle.numbers.specs.declared.Refusal.{Refusal}
 
 -- NUMBERS
 
@@ -40,9 +40,9 @@ words_append : (a b : List ℕ) → words_of (a ++ b) ≡ words_of a ++ words_of
 words_append [] b = refl
 words_append (x ∷ a) b = ap (λ (l : List ℕ). bytes 4 x ++ l) (words_append a b) ∙ sym (append_assoc (bytes 4 x) (words_of a) (words_of b))
 
-pub one-put : (x at : ℕ) (o q : List ℕ) (r : Put) → wrote r q ≡ put_of 4 x at o → at + 4 ≤ length o → x < 2 ^ 32 → q ≡ sets o at (bytes 4 x)
+pub one-put : (x at : ℕ) (o q : List ℕ) (r : Result ℕ Refusal) → wrote r q ≡ put_of 4 x at o → at + 4 ≤ length o → x < 2 ^ 32 → q ≡ sets o at (bytes 4 x)
 one-put x at o q r e h b =
-    let d : wrote (Done (at + 4)) (sets o at (bytes 4 x)) ≡ put_of 4 x at o = done 4 x at o (omega arith) b h in
+    let d : wrote (Ok (at + 4)) (sets o at (bytes 4 x)) ≡ put_of 4 x at o = done 4 x at o (omega arith) b h in
     cc
 
 pub puts-both : (a b o p q : List ℕ) (at r s : ℕ) → Puts a o at p r → Puts b p r q s → Puts (a ++ b) o at q s
@@ -68,7 +68,7 @@ rest-room a b o p at r h x = record { within = omega (arith, h.within, length-ap
 
 -- FOUR NUMBERS
 
-pub four-put : (o p₁ p₂ p₃ p₄ : List ℕ) (at a b c d : ℕ) (r₁ r₂ r₃ r₄ : Put) → at + 16 ≤ length o → a < 2 ^ 32 → b < 2 ^ 32 → c < 2 ^ 32 → d < 2 ^ 32
+pub four-put : (o p₁ p₂ p₃ p₄ : List ℕ) (at a b c d : ℕ) (r₁ r₂ r₃ r₄ : Result ℕ Refusal) → at + 16 ≤ length o → a < 2 ^ 32 → b < 2 ^ 32 → c < 2 ^ 32 → d < 2 ^ 32
     → wrote r₁ p₁ ≡ put_of 4 a at o → wrote r₂ p₂ ≡ put_of 4 b (at + 4) p₁ → wrote r₃ p₃ ≡ put_of 4 c (at + 8) p₂ → wrote r₄ p₄ ≡ put_of 4 d (at + 12) p₃
     → p₄ ≡ sets o at (words_of (a ∷ b ∷ c ∷ d ∷ []))
 four-put o p₁ p₂ p₃ p₄ at a b c d r₁ r₂ r₃ r₄ h ha hb hc hd e₁ e₂ e₃ e₄ =
@@ -80,7 +80,7 @@ four-put o p₁ p₂ p₃ p₄ at a b c d r₁ r₂ r₃ r₄ h ha hb hc hd e₁
     let x₄ : Puts (d ∷ []) p₃ (at + 12) p₄ (at + 16) = one p₃ p₄ (at + 12) (at + 16) d r₄ (omega (arith, puts-same (a ∷ b ∷ c ∷ []) o p₃ at (at + 12) y₃)) hd (omega arith) e₄ in
     (puts-both (a ∷ b ∷ c ∷ []) (d ∷ []) o p₃ p₄ at (at + 12) (at + 16) y₃ x₄).put
   where
-    one : (o q : List ℕ) (at s x : ℕ) (r : Put) → at + 4 ≤ length o → x < 2 ^ 32 → s ≡ at + 4 → wrote r q ≡ put_of 4 x at o → Puts (x ∷ []) o at q s
+    one : (o q : List ℕ) (at s x : ℕ) (r : Result ℕ Refusal) → at + 4 ≤ length o → x < 2 ^ 32 → s ≡ at + 4 → wrote r q ≡ put_of 4 x at o → Puts (x ∷ []) o at q s
     one o q at s x r h b n e = record { next = omega arith; put = one-put x at o q r e h b ∙ ap (sets o at) (sym (append-nil (bytes 4 x))) }
 
 -- BETWEEN THE FIRST NUMBER AND THE ENTRIES
@@ -110,7 +110,7 @@ second_none Stsz n o at e = absurd (omega arith)
 second_none Offsets n o at e = puts_none o at
 second_none Stss n o at e = puts_none o at
 
-pub second-some : (t : Table) (n : ℕ) (o q : List ℕ) (at : ℕ) (r : Put) → (behind_of t ≡ 0 → ⊥) → HasRoom (second_of t n) o at → n < 2 ^ 32 → wrote r q ≡ put_of 4 n at o → Puts (second_of t n) o at q (at + 4)
+pub second-some : (t : Table) (n : ℕ) (o q : List ℕ) (at : ℕ) (r : Result ℕ Refusal) → (behind_of t ≡ 0 → ⊥) → HasRoom (second_of t n) o at → n < 2 ^ 32 → wrote r q ≡ put_of 4 n at o → Puts (second_of t n) o at q (at + 4)
 unfolding second_of behind_of
 second-some Stts n o q at r z h b e = absurd (z refl)
 second-some Ctts n o q at r z h b e = absurd (z refl)
@@ -185,14 +185,14 @@ module _ (t : Table) (scale : ℕ) (rs : List ℕ) (n : ℕ) where
 -- A PART OF THE BUFFER
 
 -- numbers placed at the start of a part are put from there on
-pub part-put : (ns o part ys : List ℕ) (a k : ℕ) (r : Put) → part ≡ take k (drop a o) → k ≡ length o - a → a + length ns * 4 ≤ length o → wrote r ys ≡ placed_of ns part → take a o ++ (ys ++ drop k (drop a o)) ≡ sets o a (words_of ns)
+pub part-put : (ns o part ys : List ℕ) (a k : ℕ) (r : Result ℕ Refusal) → part ≡ take k (drop a o) → k ≡ length o - a → a + length ns * 4 ≤ length o → wrote r ys ≡ placed_of ns part → take a o ++ (ys ++ drop k (drop a o)) ≡ sets o a (words_of ns)
 unfolding placed_of
 part-put ns o part ys a k r pe ke h e =
     let w = length-words ns in
     let whole : take k (drop a o) ≡ drop a o = take_all k (drop a o) (omega (arith, length-drop a o)) in
     let is : part ≡ drop a o = pe ∙ whole in
     let lp : length part ≡ length o - a = ap length is ∙ length-drop a o in
-    let d : wrote (Done (length ns * 4)) (sets part 0 (words_of ns)) ≡ wrote r ys = is_le _ _ _ (length ns * 4) (length part) (omega arith) refl ∙ sym e in
+    let d : wrote (Ok (length ns * 4)) (sets part 0 (words_of ns)) ≡ wrote r ys = is_le _ _ _ (length ns * 4) (length part) (omega arith) refl ∙ sym e in
     let ye : ys ≡ sets part 0 (words_of ns) = cc in
     let se : sets part 0 (words_of ns) ≡ words_of ns ++ drop (0 + length (words_of ns)) part = sets-eq (words_of ns) part 0 (omega arith) in
     let past : length (drop a o) ≤ k = omega (arith, length-drop a o) in
@@ -205,7 +205,7 @@ part-put ns o part ys a k r pe ke h e =
     ∙ sym (append_assoc (take a o) (words_of ns) (drop (a + length (words_of ns)) o)) ∙ sym back
 
 module _ (t : Table) (scale : ℕ) (rs : List ℕ) (n : ℕ) (g : Ready scale rs n) where
-  pub table-some : (o p part ys q : List ℕ) (at begin bytes k : ℕ) (r : Put) → is_there t rs n ≡ true → HasRoom (table_of t scale rs n) o at → Puts (before_of t scale rs n) o at p begin → bytes ≡ length (list_of t scale rs n) * 4
+  pub table-some : (o p part ys q : List ℕ) (at begin bytes k : ℕ) (r : Result ℕ Refusal) → is_there t rs n ≡ true → HasRoom (table_of t scale rs n) o at → Puts (before_of t scale rs n) o at p begin → bytes ≡ length (list_of t scale rs n) * 4
       → part ≡ take k (drop begin p) → k ≡ length p - begin → wrote r ys ≡ entries_in t scale rs n part → q ≡ take begin p ++ (ys ++ drop k (drop begin p))
       → Puts (table_of t scale rs n) o at q (begin + bytes)
   table-some o p part ys q at begin bytes k r e h x b pe ke w f =

@@ -1,13 +1,14 @@
 -- Worked examples of the definitions: a track of two samples, one with a composition offset, one behind 4 GiB, an empty
 -- track, and every refusal. Assumes nothing.
+use Rattle.std.specs.Prelude.{Ok, Err}
 use mathlib.Core.Path.{◌≡◌, refl}
 use mathlib.Core.List.{List, [], ◌∷◌, ◌++◌}
 use Prim.Native.Nat.{ℕ}
 use lib.ListN.{replicate}
 use Rattle.numbers.specs.Number.{bytes}
-use Rattle.numbers.specs.Field.{refusal, when}
+use Rattle.numbers.specs.Field.{when}
+use Rattle.numbers.specs.declared.Refusal.TheVariants as refusal
 use Rattle.put.specs.Put.{wrote}
-use Rattle.put.specs.declared.Put.TheVariants.{Done, Refused}
 use Rattle.places.specs.Kinds as kinds
 use Rattle.merging.specs.Merging as merging
 use Rattle.columns.specs.Columns.{cell_of, low_at, meets}
@@ -63,7 +64,7 @@ case-empty = refl
 
 -- the whole box of an empty track around three bytes that are handed in; what lies past it stays
 case-whole : stbl_in 1 [] 0 (1 ∷ 2 ∷ 3 ∷ []) (replicate 81 9)
-    ≡ wrote (Done 79)
+    ≡ wrote (Ok 79)
     (bytes 4 79 ++ bytes 4 kinds.stbl ++ (1 ∷ 2 ∷ 3 ∷ [])
     ++ bytes 4 16 ++ bytes 4 kinds.stts ++ replicate 8 0
     ++ bytes 4 16 ++ bytes 4 kinds.stsc ++ replicate 8 0
@@ -73,32 +74,32 @@ unfolding list_of per_of kind_of is_there first_of second_of fits_in chunking.fi
 case-whole = refl
 
 -- 8 comes first, then 11, 13 and 12
-case-8 : stbl_in 0 two 3 [] [] ≡ wrote (Refused (refusal 8 0)) []
+case-8 : stbl_in 0 two 3 [] [] ≡ wrote (Err (refusal.Value 0)) []
 unfolding when
 case-8 = refl
 
-case-11 : stbl_in 1 two 3 [] [] ≡ wrote (Refused (refusal 11 3)) []
+case-11 : stbl_in 1 two 3 [] [] ≡ wrote (Err (refusal.NoSample 3)) []
 unfolding when
 case-11 = refl
 
-case-13-size : stbl_in 1 (sample 0 0x1_0000_0000 1 0 1) 1 [] [] ≡ wrote (Refused (refusal 13 0)) []
+case-13-size : stbl_in 1 (sample 0 0x1_0000_0000 1 0 1) 1 [] [] ≡ wrote (Err refusal.Unwritable) []
 unfolding fits_in chunking.fits_in cell_of meets when
 case-13-size = refl
 
-case-13-composition : stbl_in 1 (sample 0 1 1 0x8000_0000 1) 1 [] [] ≡ wrote (Refused (refusal 13 0)) []
+case-13-composition : stbl_in 1 (sample 0 1 1 0x8000_0000 1) 1 [] [] ≡ wrote (Err refusal.Unwritable) []
 unfolding fits_in chunking.fits_in cell_of meets when
 case-13-composition = refl
 
-case-12 : stbl_in 1 [] 0 [] (replicate 75 9) ≡ wrote (Refused (refusal 12 76)) (replicate 75 9)
+case-12 : stbl_in 1 [] 0 [] (replicate 75 9) ≡ wrote (Err (refusal.TooSmall 76)) (replicate 75 9)
 unfolding list_of per_of kind_of is_there first_of second_of fits_in chunking.fits_in common_in sync_word offset_words step_of finish_of goes_on low_at cell_of meets bytes when merging.step_of merging.finish_of
 case-12 = refl
 
 -- inside: what a builder writes, the length that an answer tells, and the bytes before the entries of stsz
-case-entries : entries_in Stss 1 two 2 [] ≡ wrote (Refused (refusal 12 4)) []
+case-entries : entries_in Stss 1 two 2 [] ≡ wrote (Err (refusal.TooSmall 4)) []
 unfolding entries_in built_of placed_of sync_word cell_of when
 case-entries = refl
 
-case-told : told_by (Refused (refusal 12 4)) ≡ 4
+case-told : told_by (Err (refusal.TooSmall 4)) ≡ 4
 case-told = refl
 
 case-behind : behind_of Stsz ≡ 4

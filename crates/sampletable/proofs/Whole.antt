@@ -1,4 +1,5 @@
 -- The whole box, and what its writer answers, way by way. Assumes nothing.
+use Rattle.std.specs.Prelude.{Result, Ok, Err}
 use Prim.Native.Nat.{ℕ, ◌+◌, ◌-◌, ◌*◌, ◌^◌, ◌≤◌, ◌<◌}
 use mathlib.Core.Path.{◌≡◌, refl, sym, ap, ap₂, ◌∙◌}
 use mathlib.Core.List.{List, [], ◌++◌, append_assoc, append-nil}
@@ -10,12 +11,10 @@ use lib.Seq.{sets, sets-eq, length-sets}
 use lib.Dec.{leb}
 use borrow.Author.Tests.{leb-true, leb-false, not-true, not-false}
 use Rattle.numbers.specs.Number.{bytes}
-use Rattle.numbers.specs.Field.{refusal}
+use Rattle.numbers.specs.declared.Refusal.TheVariants as refusal
 use Rattle.numbers.proofs.Laws.{length-bytes}
 use Rattle.numbers.proofs.Chain.{by-true, by-false, is_eq, is_ne, is_lt, not-lt, is_le, not-le}
 use Rattle.put.specs.Put.{Wrote, wrote, put_of, placed}
-use Rattle.put.specs.declared.Put.{Put}
-use Rattle.put.specs.declared.Put.TheVariants.{Done, Refused}
 use Rattle.put.proofs.Stores.{sets-append}
 use Rattle.put.proofs.Placed.{has_room}
 use Rattle.layout.specs.Write.{place}
@@ -27,6 +26,7 @@ use Rattle.chunking.specs.Entries as chunking
 use Rattle.sampletable.specs.SampleTable.{tables_of, stbl_of, stbl_in, fits_in}
 use Rattle.sampletable.specs.Inside.{Ready}
 use Rattle.sampletable.proofs.Puts.{length-words, one-put}
+use Rattle.numbers.specs.declared.Refusal.{Refusal}
 
 -- WHETHER ALL FIT
 
@@ -58,7 +58,7 @@ module _ (scale : ℕ) (rs : List ℕ) (n : ℕ) (stsd : List ℕ) where
       omega
       (arith, length-inside, length-append (bytes 4 size ++ bytes 4 kinds.stbl ++ []) inside, length-append (bytes 4 size ++ bytes 4 kinds.stbl) [], length-append (bytes 4 size) (bytes 4 kinds.stbl), length-bytes 4 size, length-bytes 4 kinds.stbl)
 
-  pub all-put : (o p₁ p₂ p₃ p₄ : List ℕ) (total : ℕ) (r₁ r₂ r₃ : Put) → total ≡ 8 + length stsd + length (tables_of scale rs n) * 4 → total ≤ length o → total < 2 ^ 32 → wrote r₁ p₁ ≡ put_of 4 total 0 o
+  pub all-put : (o p₁ p₂ p₃ p₄ : List ℕ) (total : ℕ) (r₁ r₂ r₃ : Result ℕ Refusal) → total ≡ 8 + length stsd + length (tables_of scale rs n) * 4 → total ≤ length o → total < 2 ^ 32 → wrote r₁ p₁ ≡ put_of 4 total 0 o
       → wrote r₂ p₂ ≡ put_of 4 kinds.stbl 4 p₁ → wrote r₃ p₃ ≡ placed stsd (length stsd) 8 p₂ → p₄ ≡ sets p₃ (8 + length stsd) (words_of (tables_of scale rs n)) → p₄ ≡ sets o 0 (stbl_of scale rs n stsd)
   all-put o p₁ p₂ p₃ p₄ total r₁ r₂ r₃ ht h b e₁ e₂ e₃ e₄ =
       let ws = words_of (tables_of scale rs n) in
@@ -70,7 +70,7 @@ module _ (scale : ℕ) (rs : List ℕ) (n : ℕ) (stsd : List ℕ) where
       let l₁ : length p₁ ≡ length o = ap length q₁ ∙ length-sets o 0 (bytes 4 total) in
       let q₂ : p₂ ≡ sets p₁ 4 (bytes 4 kinds.stbl) = one-put kinds.stbl 4 p₁ p₂ r₂ e₂ (omega arith) (omega arith) in
       let l₂ : length p₂ ≡ length p₁ = ap length q₂ ∙ length-sets p₁ 4 (bytes 4 kinds.stbl) in
-      let d₃ : wrote (Done (8 + length stsd)) (sets p₂ 8 stsd) ≡ wrote r₃ p₃ = has_room stsd (length stsd) 8 p₂ (omega arith) ∙ sym e₃ in
+      let d₃ : wrote (Ok (8 + length stsd)) (sets p₂ 8 stsd) ≡ wrote r₃ p₃ = has_room stsd (length stsd) 8 p₂ (omega arith) ∙ sym e₃ in
       let q₃ : p₃ ≡ sets p₂ 8 stsd = cc in
       let n₂ : 4 ≡ 0 + length (bytes 4 total) = omega arith in
       let s₂ : p₂ ≡ sets o 0 (a ++ k) = q₂ ∙ ap₂ (λ (l : List ℕ) (m : ℕ). sets l m (bytes 4 kinds.stbl)) q₁ n₂ ∙ sets-append o 0 a k in
@@ -85,45 +85,46 @@ module _ (scale : ℕ) (rs : List ℕ) (n : ℕ) (stsd : List ℕ) where
   -- ANSWERS
 
   module _ (o : List ℕ) where
-    pub says-timescale : (r : Put) → scale ≡ 0 → r ≡ Refused (refusal 8 0) → wrote r o ≡ stbl_in scale rs n stsd o
-    says-timescale r z q = is_eq _ _ _ scale 0 z (ap (λ (x : Put). wrote x o) q)
+    pub says-timescale : scale ≡ 0 → wrote (Err (refusal.Value 0)) o ≡ stbl_in scale rs n stsd o
+    says-timescale z = is_eq _ _ _ scale 0 z refl
 
-    pub says_none : (r : Put) (has : Bool) → (scale ≡ 0 → ⊥) → has ≡ leb (n * 7) (length rs) → not has ≡ true → r ≡ Refused (refusal 11 n) → wrote r o ≡ stbl_in scale rs n stsd o
-    says_none r has z e t q = is_ne _ _ _ scale 0 z (not-le _ _ _ (n * 7) (length rs) (leb-false (n * 7) (length rs) (sym e ∙ not-true has t)) (ap (λ (x : Put). wrote x o) q))
+    module _ (has : Bool) (z : scale ≡ 0 → ⊥) (e : has ≡ leb (n * 7) (length rs)) where
+      pub says_none : not has ≡ true → wrote (Err (refusal.NoSample n)) o ≡ stbl_in scale rs n stsd o
+      says_none t = is_ne _ _ _ scale 0 z (not-le _ _ _ (n * 7) (length rs) (leb-false (n * 7) (length rs) (sym e ∙ not-true has t)) refl)
 
-    module _ (has : Bool) (z : scale ≡ 0 → ⊥) (e : has ≡ leb (n * 7) (length rs)) (t : not has ≡ false) where
-      there : n * 7 ≤ length rs
-      there = leb-true (n * 7) (length rs) (sym e ∙ not-false has t)
+      module _ (t : not has ≡ false) where
+        there : n * 7 ≤ length rs
+        there = leb-true (n * 7) (length rs) (sym e ∙ not-false has t)
 
-      pub says-many : (r : Put) → 0xffff_ffff < n → r ≡ Refused (refusal 13 0) → wrote r o ≡ stbl_in scale rs n stsd o
-      says-many r h q = is_ne _ _ _ scale 0 z (is_le _ _ _ (n * 7) (length rs) there (not-lt _ _ _ n (2 ^ 32) (omega arith) (ap (λ (x : Put). wrote x o) q)))
+        pub says-many : 0xffff_ffff < n → wrote (Err refusal.Unwritable) o ≡ stbl_in scale rs n stsd o
+        says-many h = is_ne _ _ _ scale 0 z (is_le _ _ _ (n * 7) (length rs) there (not-lt _ _ _ n (2 ^ 32) (omega arith) refl))
 
-      pub says-unfit : (r : Put) (f : Bool) → n ≤ 0xffff_ffff → f ≡ fits_in rs n → not f ≡ true → r ≡ Refused (refusal 13 0) → wrote r o ≡ stbl_in scale rs n stsd o
-      says-unfit r f h g u q =
-          is_ne _ _ _ scale 0 z (is_le _ _ _ (n * 7) (length rs) there (is_lt _ _ _ n (2 ^ 32) (omega arith) (by-false _ _ _ (fits_in rs n) (sym g ∙ not-true f u) (ap (λ (x : Put). wrote x o) q))))
+        pub says-unfit : (f : Bool) → n ≤ 0xffff_ffff → f ≡ fits_in rs n → not f ≡ true → wrote (Err refusal.Unwritable) o ≡ stbl_in scale rs n stsd o
+        says-unfit f h g u =
+            is_ne _ _ _ scale 0 z (is_le _ _ _ (n * 7) (length rs) there (is_lt _ _ _ n (2 ^ 32) (omega arith) (by-false _ _ _ (fits_in rs n) (sym g ∙ not-true f u) refl)))
 
-      pub ready_of : (f : Bool) → n ≤ 0xffff_ffff → f ≡ fits_in rs n → not f ≡ false → Ready scale rs n
-      ready_of f h g u = record { scaled = z; there = there; counted = omega arith; fits = sym g ∙ not-false f u }
+        pub ready_of : (f : Bool) → n ≤ 0xffff_ffff → f ≡ fits_in rs n → not f ≡ false → Ready scale rs n
+        ready_of f h g u = record { scaled = z; there = there; counted = omega arith; fits = sym g ∙ not-false f u }
 
     module _ (g : Ready scale rs n) where
       says : (x : Wrote) → x ≡ place o (stbl_of scale rs n stsd) → x ≡ stbl_in scale rs n stsd o
       says x q = is_ne _ _ _ scale 0 g.scaled (is_le _ _ _ (n * 7) (length rs) g.there (is_lt _ _ _ n (2 ^ 32) g.counted (by-true _ _ _ (fits_in rs n) g.fits q)))
 
-      pub says-large : (r : Put) (tables : ℕ) → tables ≡ length (tables_of scale rs n) * 4 → 0xffff_ffff < 8 + length stsd + tables → r ≡ Refused (refusal 13 0) → wrote r o ≡ stbl_in scale rs n stsd o
-      says-large r tables e h q = says (wrote r o) (is_lt _ _ _ (2 ^ 32 - 1) (length (stbl_of scale rs n stsd)) (omega (arith, length-stbl)) (ap (λ (x : Put). wrote x o) q))
+      pub says-large : (tables : ℕ) → tables ≡ length (tables_of scale rs n) * 4 → 0xffff_ffff < 8 + length stsd + tables → wrote (Err refusal.Unwritable) o ≡ stbl_in scale rs n stsd o
+      says-large tables e h = says (wrote (Err refusal.Unwritable) o) (is_lt _ _ _ (2 ^ 32 - 1) (length (stbl_of scale rs n stsd)) (omega (arith, length-stbl)) refl)
 
-      pub says-small : (r : Put) (tables total : ℕ) → tables ≡ length (tables_of scale rs n) * 4 → total ≡ 8 + length stsd + tables → total ≤ 0xffff_ffff → length o < total → r ≡ Refused (refusal 12 total) → wrote r o ≡ stbl_in scale rs n stsd o
-      says-small r tables total e f h k q =
+      pub says-small : (tables total : ℕ) → tables ≡ length (tables_of scale rs n) * 4 → total ≡ 8 + length stsd + tables → total ≤ 0xffff_ffff → length o < total → wrote (Err (refusal.TooSmall total)) o ≡ stbl_in scale rs n stsd o
+      says-small tables total e f h k =
           let l : total ≡ length (stbl_of scale rs n stsd) = omega (arith, length-stbl) in
-          says (wrote r o)
+          says (wrote (Err (refusal.TooSmall total)) o)
           (not-lt _ _ _ (2 ^ 32 - 1) (length (stbl_of scale rs n stsd)) (omega arith)
-          (is_lt _ _ _ (length o) (length (stbl_of scale rs n stsd)) (omega arith) (ap (λ (x : Put). wrote x o) (q ∙ ap (λ (m : ℕ). Refused (refusal 12 m)) l))))
+          (is_lt _ _ _ (length o) (length (stbl_of scale rs n stsd)) (omega arith) (ap (λ (m : ℕ). wrote (Err (refusal.TooSmall m)) o) l)))
 
       pub says-done : (p : List ℕ) (tables total : ℕ) → tables ≡ length (tables_of scale rs n) * 4 → total ≡ 8 + length stsd + tables → total ≤ 0xffff_ffff → total ≤ length o → p ≡ sets o 0 (stbl_of scale rs n stsd)
-          → wrote (Done total) p ≡ stbl_in scale rs n stsd o
+          → wrote (Ok total) p ≡ stbl_in scale rs n stsd o
       says-done p tables total e f h k q =
           let l : total ≡ length (stbl_of scale rs n stsd) = omega (arith, length-stbl) in
-          says (wrote (Done total) p)
+          says (wrote (Ok total) p)
           (not-lt _ _ _ (2 ^ 32 - 1) (length (stbl_of scale rs n stsd)) (omega arith)
           (not-lt _ _ _ (length o) (length (stbl_of scale rs n stsd)) (omega arith)
-          (ap₂ (λ (m : ℕ) (x : List ℕ). wrote (Done m) x) l (q ∙ sets-eq (stbl_of scale rs n stsd) o 0 (omega arith) ∙ ap (λ (m : ℕ). stbl_of scale rs n stsd ++ drop m o) (zero-add (length (stbl_of scale rs n stsd)))))))
+          (ap₂ (λ (m : ℕ) (x : List ℕ). wrote (Ok m) x) l (q ∙ sets-eq (stbl_of scale rs n stsd) o 0 (omega arith) ∙ ap (λ (m : ℕ). stbl_of scale rs n stsd ++ drop m o) (zero-add (length (stbl_of scale rs n stsd)))))))

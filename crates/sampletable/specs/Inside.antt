@@ -1,16 +1,16 @@
 -- What the inner functions of the writer of a sample table promise each other. A reader of the promise of `write` needs none
 -- of it. Assumes nothing.
-use Rattle.std.specs.Prelude.{ℕ, ◌+◌, ◌*◌, ◌^◌, ◌≤◌, ◌<◌, ◌≡◌, List, ◌∷◌, ◌++◌, true, length}
+use Rattle.std.specs.Prelude.{ℕ, ◌+◌, ◌*◌, ◌^◌, ◌≤◌, ◌<◌, ◌≡◌, List, ◌∷◌, ◌++◌, true, length, Result, Ok, Err}
 use Rattle.std.proofs.lemmas.List.Edits.{sets}
+use Rattle.numbers.specs.Refusals.{detail}
 use Rattle.put.specs.Put.{Wrote}
-use Rattle.put.specs.declared.Put.{Put}
-use Rattle.put.specs.declared.Put.TheVariants.{Done, Refused}
 use Rattle.columns.specs.Entries.{words_of}
 use Rattle.builder.specs.Built as builder
 use Rattle.chunking.specs.Entries as chunking
 use Rattle.sampletable.specs.SampleTable.{wide_in, list_of, kind_of, head_of, fits_in}
 use Rattle.sampletable.specs.declared.Table.{Table}
 use Rattle.sampletable.specs.declared.Table.TheVariants.{Stts, Ctts, Stsc, Stsz, Offsets, Stss}
+use Rattle.numbers.specs.declared.Refusal.{Refusal}
 
 -- the entries of a table, by its builder
 unfoldable pub entries_in : Table → ℕ → List ℕ → ℕ → List ℕ → Wrote
@@ -22,9 +22,9 @@ entries_in Offsets scale rs n o = chunking.offsets_of scale rs n o
 entries_in Stss scale rs n o = builder.stss_of rs n o
 
 -- the length that an answer tells
-abbrev pub told_by : Put → ℕ
-told_by (Done k) = k
-told_by (Refused q) = q.detail
+abbrev pub told_by : Result ℕ Refusal → ℕ
+told_by (Ok k) = k
+told_by (Err q) = detail q
 
 -- the bytes between the first number and the entries
 unfoldable pub behind_of : Table → ℕ

@@ -2,10 +2,10 @@
 -- the sample descriptions, which are handed in, and the boxes of the tables in the standard's order. The samples are the
 -- first n records of a buffer. Every field behind the sample descriptions has four bytes, so that the boxes are told by
 -- their numbers; a place in co64 is two. Assumes nothing.
-use Rattle.std.specs.Prelude.{ℕ, ◌+◌, ◌*◌, ◌/◌, ◌^◌, List, [], ◌∷◌, ◌++◌, Bool, true, false, not, length, eqb, leb, ltb}
-use Rattle.numbers.specs.Field.{refusal, when}
+use Rattle.std.specs.Prelude.{ℕ, ◌+◌, ◌*◌, ◌/◌, ◌^◌, List, [], ◌∷◌, ◌++◌, Bool, true, false, not, length, eqb, leb, ltb, Err}
+use Rattle.numbers.specs.Field.{when}
+use Rattle.numbers.specs.declared.Refusal.TheVariants as refusal
 use Rattle.put.specs.Put.{Wrote, wrote}
-use Rattle.put.specs.declared.Put.TheVariants.{Refused}
 use Rattle.layout.specs.Write.{full, place}
 use Rattle.places.specs.Kinds as kinds
 use Rattle.columns.specs.declared.Rule.TheVariants.{Zero, Signed}
@@ -106,7 +106,7 @@ fits_in rs n = when (chunking.fits_in rs n) (all_meet Signed (column_of rs n 5))
 -- where a number does not fit its field (A60) or where the box has no size of 32 bits; 12 with the length needed last (A61)
 abbrev pub stbl_in : ℕ → List ℕ → ℕ → List ℕ → List ℕ → Wrote
 stbl_in scale rs n stsd o =
-    when (eqb scale 0) (wrote (Refused (refusal 8 0)) o)
+    when (eqb scale 0) (wrote (Err (refusal.Value 0)) o)
     (when (leb (n * 7) (length rs))
-    (when (ltb n (2 ^ 32)) (when (fits_in rs n) (place o (stbl_of scale rs n stsd)) (wrote (Refused (refusal 13 0)) o)) (wrote (Refused (refusal 13 0)) o))
-    (wrote (Refused (refusal 11 n)) o))
+    (when (ltb n (2 ^ 32)) (when (fits_in rs n) (place o (stbl_of scale rs n stsd)) (wrote (Err refusal.Unwritable) o)) (wrote (Err refusal.Unwritable) o))
+    (wrote (Err (refusal.NoSample n)) o))

@@ -1,4 +1,4 @@
-#![tactic(auto)]
+#![tactic(auto, unfolding(numbers::specs::Field::when, numbers::specs::Field::field))]
 // The sample table of a track (ISO/IEC 14496-12, 8.5.1), from its samples: a box around the sample descriptions, which are
 // handed in, and the tables. The samples lie in a buffer as records of seven numbers (samples::put).
 ghost use Rattle.std.specs.Prelude.{◌≡◌, ◌+◌, ◌*◌, ◌/◌, ◌^◌, ◌≤◌, ◌<◌, [], ◌∷◌, length};
@@ -8,9 +8,9 @@ ghost use Rattle.put.specs.Put.{wrote};
 ghost use Rattle.sampletable.specs.SampleTable.{wide_in, list_of, per_of, kind_of, is_there, first_of, second_of, head_of, table_of, tables_of, stbl_of, fits_in, stbl_in};
 ghost use Rattle.sampletable.specs.Inside.{entries_in, told_by, behind_of, before_of, Ready, Puts, HasRoom};
 
-use columns::{Rule, refuse};
+use columns::Rule;
+use numbers::Refusal;
 use places::kinds;
-use put::Put;
 
 // A table of a track, in the order in which they are written; Offsets is stco or co64.
 #[derive(Clone, Copy)]
@@ -24,7 +24,13 @@ pub enum Table {
 }
 
 // The entries of a table, by its builder.
-fn entries(table: Table, records: &[u64], n: usize, timescale: u32, out: &mut [u8]) -> Put
+fn entries(
+    table: Table,
+    records: &[u64],
+    n: usize,
+    timescale: u32,
+    out: &mut [u8],
+) -> Result<usize, Refusal>
     ensures { wrote result out.new ≡ entries_in table timescale records.now n out.old }
 {
     match table {
@@ -38,12 +44,12 @@ fn entries(table: Table, records: &[u64], n: usize, timescale: u32, out: &mut [u
 }
 
 // The length that a builder tells, whether it has room or not.
-fn told(answer: Put) -> usize
+fn told(answer: Result<usize, Refusal>) -> usize
     ensures { result ≡ told_by answer }
 {
     match answer {
-        Put::Done(n) => n,
-        Put::Refused(q) => q.detail,
+        Ok(n) => n,
+        Err(q) => q.detail(),
     }
 }
 
@@ -141,10 +147,10 @@ fn put_four(out: &mut [u8], at: usize, size: u32, kind: u32, first: u32)
     requires { at + 16 ≤ length out.old }
     ensures { out.new ≡ sets out.old at (words_of (size ∷ kind ∷ 0 ∷ first ∷ [])) }
 {
-    put::u32_at(out, at, size);
-    put::u32_at(out, at + 4, kind);
-    put::u32_at(out, at + 8, 0);
-    put::u32_at(out, at + 12, first);
+    let _ = put::write::<u32>(out, at, size);
+    let _ = put::write::<u32>(out, at + 4, kind);
+    let _ = put::write::<u32>(out, at + 8, 0);
+    let _ = put::write::<u32>(out, at + 12, first);
 }
 
 // What comes between the first number and the entries; and the place after it.
@@ -155,7 +161,7 @@ fn put_second(table: Table, out: &mut [u8], at: usize, n: u32) -> usize
     if behind(table) == 0 {
         return at;
     }
-    put::u32_at(out, at, n);
+    let _ = put::write::<u32>(out, at, n);
     at + 4
 }
 
@@ -198,7 +204,7 @@ fn put_table(
     }
     let bytes = listed(table, records, n, timescale);
     let begin = put_before(table, records, n, timescale, bytes, out, at);
-    entries(table, records, n, timescale, &mut out[begin..]);
+    let _ = entries(table, records, n, timescale, &mut out[begin..]);
     begin + bytes
 }
 
@@ -234,9 +240,9 @@ fn put_all(records: &[u64], n: usize, timescale: u32, stsd: &[u8], total: usize,
     requires { (Ready timescale records.now n) × (total ≡ 8 + length stsd.now + length (tables_of timescale records.now n) * 4) × (total ≤ length out.old) × (total < 2 ^ 32) }
     ensures { out.new ≡ sets out.old 0 (stbl_of timescale records.now n stsd.now) }
 {
-    put::u32_at(out, 0, total as u32);
-    put::u32_at(out, 4, kinds::STBL);
-    put::part(out, 8, stsd);
+    let _ = put::write::<u32>(out, 0, total as u32);
+    let _ = put::write::<u32>(out, 4, kinds::STBL);
+    let _ = put::part(out, 8, stsd);
     put_tables(records, n, timescale, out, 8 + stsd.len());
 }
 
@@ -254,36 +260,42 @@ fn fit(records: &[u64], n: usize) -> bool
 }
 
 // The sample table for the first n records, around the sample descriptions' box, and its length.
-pub fn write(records: &[u64], n: usize, timescale: u32, stsd: &[u8], out: &mut [u8]) -> Put
+pub fn write(
+    records: &[u64],
+    n: usize,
+    timescale: u32,
+    stsd: &[u8],
+    out: &mut [u8],
+) -> Result<usize, Refusal>
     ensures { wrote result out.new ≡ stbl_in timescale records.now n stsd.now out.old }
 {
     if timescale == 0 {
-        return refuse(8, 0);
+        return Err(Refusal::Value(0));
     }
     if !columns::has(records, n) {
-        return refuse(11, n);
+        return Err(Refusal::NoSample(n));
     }
     if columns::MANY < n {
-        return refuse(13, 0);
+        return Err(Refusal::Unwritable);
     }
     if !fit(records, n) {
-        return refuse(13, 0);
+        return Err(Refusal::Unwritable);
     }
     let tables = needed(records, n, timescale);
     if 0xffff_ffff < tables {
-        return refuse(13, 0);
+        return Err(Refusal::Unwritable);
     }
     if 0xffff_ffff - tables < stsd.len() {
-        return refuse(13, 0);
+        return Err(Refusal::Unwritable);
     }
     let inside = stsd.len() + tables;
     if 0xffff_ffff - 8 < inside {
-        return refuse(13, 0);
+        return Err(Refusal::Unwritable);
     }
     let total = 8 + inside;
     if out.len() < total {
-        return refuse(12, total);
+        return Err(Refusal::TooSmall(total));
     }
     put_all(records, n, timescale, stsd, total, out);
-    Put::Done(total)
+    Ok(total)
 }

@@ -1,4 +1,5 @@
 -- The sizes between two samples, as the numbers of a part of the file. Assumes nothing.
+use Rattle.std.specs.Prelude.{Result, Ok, Err}
 use Prim.Native.Nat.{ℕ, zero, suc, ◌+◌, ◌-◌, ◌*◌, ◌/◌, ◌^◌, ◌≤◌, ◌<◌, min}
 use mathlib.Core.Path.{◌≡◌, refl, sym, ap, ap₂, ◌∙◌}
 use mathlib.Core.List.{List}
@@ -9,9 +10,7 @@ use lib.Seq.{get_or-take}
 use Rattle.numbers.specs.Number.{be}
 use Rattle.numbers.specs.Field.{field, or_zero}
 use Rattle.numbers.specs.declared.Refusal.{Refusal}
-use Rattle.numbers.specs.declared.U32.{U32}
-use Rattle.numbers.specs.declared.U32.TheVariants as u32
-use Rattle.numbers.proofs.Chain.{there, lacks, whole, ends, by32}
+use Rattle.numbers.proofs.Chain.{there, lacks, whole, ends}
 use Rattle.words.proofs.Words.{be-drop}
 use Rattle.tables.specs.Tables.{list_from, sum, size_at}
 use Rattle.tables.specs.declared.Sizes.{Sizes}
@@ -109,13 +108,13 @@ module _ (p : List ℕ) (i s : ℕ) (a : Added p i s) where
       let z : s + 0 ≡ s = omega arith in
       sym z ∙ ap (λ (n : ℕ). s + sum (list_from (word_of p) n (i / 4))) (sym e) ∙ a.2
 
-  module _ (u : U32) (e : u ≡ field u32.Refused 4 p i u32.Is) where
-    pub added-cut : (q : Refusal) → u ≡ u32.Refused q → s ≡ words_sum p
-    added-cut q g = added-all (lacks by32 4 p i u e q g)
+  module _ (u : Result ℕ Refusal) (e : u ≡ field Err 4 p i Ok) where
+    pub added-cut : (q : Refusal) → u ≡ Err q → s ≡ words_sum p
+    added-cut q g = added-all (lacks 4 p i u e q g)
 
-    pub added-one : (n : ℕ) → u ≡ u32.Is n → n < 4294967296 → Added p (i + 4) (s + n)
+    pub added-one : (n : ℕ) → u ≡ Ok n → n < 4294967296 → Added p (i + 4) (s + n)
     added-one n g b =
-        let t = there by32 4 p i u e n g in
+        let t = there 4 p i u e n g in
         let k : (i + 4) / 4 ≡ i / 4 + 1 = omega (arith, a.0) in
         let m : length p / 4 - (i / 4 + 1) ≡ length p / 4 - i / 4 - 1 = omega arith in
         let w : n ≡ word_of p (i / 4) = whole 4 p (i / 4 * 4) (λ x. 0) (λ x. x) n n (omega (arith, a.0, t.0)) (t.1 ∙ ap (be 4 p) a.0) refl in

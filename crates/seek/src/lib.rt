@@ -1,4 +1,4 @@
-#![tactic(auto)]
+#![tactic(auto, unfolding(numbers::specs::Field::when, numbers::specs::Field::field))]
 // What a track's tables say of one sample, by its number, counted from 0: entries are passed over whole, and no sample
 // is visited on the way. Nothing is refused here.
 ghost use Rattle.std.specs.Prelude.{◌≡◌, ◌≤◌, min, length};
@@ -6,7 +6,6 @@ ghost use Rattle.tables.specs.Tables.{values_of};
 ghost use Rattle.tables.specs.Rows.{rows_of};
 ghost use Rattle.seek.specs.Seek.{value_of, per_chunk, spot_of, span_of, longest, words_sum};
 
-use numbers::U32;
 use tables::{Rows, Sizes};
 
 // A value and the sum of those before it; or how many there are, where they are too few.
@@ -36,7 +35,7 @@ pub fn value_at(file: &[u8], rows: Rows, k: u32) -> Value
         let many = e.count;
         if (left as u64) < many {
             return Value::At {
-                value: value,
+                value,
                 sum: sum + (left as u64) * (value as u64),
             };
         }
@@ -93,7 +92,7 @@ fn sum_of(part: &[u8]) -> u64
     let mut i = 0;
     let mut sum = 0;
     while i < part.len() {
-        let U32::Is(n) = numbers::u32_at(part, i) else {
+        let Ok(n) = numbers::read::<u32>(part, i) else {
             return sum;
         };
         sum += n as u64;

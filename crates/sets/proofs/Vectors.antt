@@ -1,21 +1,21 @@
 -- Worked examples of the definitions, computed. Assumes nothing.
+use Rattle.std.specs.Prelude.{Ok, Err}
 use mathlib.Core.Path.{◌≡◌, refl}
 use mathlib.Core.List.{List, [], ◌∷◌}
 use mathlib.Core.Bool.{true, false}
 use Prim.Native.Nat.{ℕ}
 use lib.ListN.{replicate}
 use Rattle.numbers.specs.Number.{be, bytes}
-use Rattle.numbers.specs.Field.{refusal, field, when}
+use Rattle.numbers.specs.Field.{field, when}
+use Rattle.numbers.specs.declared.Refusal.TheVariants as refusal
 use Rattle.put.specs.Put.{wrote}
-use Rattle.put.specs.declared.Put.TheVariants as put
 use Rattle.sets.specs.Sets.{end_of, nth_of, filled_by, list_of, set_in}
-use Rattle.sets.specs.declared.Found.TheVariants.{End, Refused}
 
 -- two sets, of 3 bytes and of 1, with a byte before them and one after
 abbrev two : List ℕ
 two = 9 ∷ 0 ∷ 3 ∷ 0x67 ∷ 1 ∷ 2 ∷ 0 ∷ 1 ∷ 0x68 ∷ 9 ∷ []
 
-two-end : end_of 2 two 1 ≡ End 9
+two-end : end_of 2 two 1 ≡ Ok 9
 unfolding be field when end_of
 two-end = refl
 
@@ -29,7 +29,7 @@ unfolding be field when end_of
 second_is = refl
 
 -- a third has half a length only: 1 where the length stands, and no bytes
-third-cut : end_of 3 two 1 ≡ Refused (refusal 1 9)
+third-cut : end_of 3 two 1 ≡ Err (refusal.Cut 9)
 unfolding be field when end_of
 third-cut = refl
 
@@ -38,7 +38,7 @@ unfolding be field when end_of
 third-is = refl
 
 -- a set that is one byte short: 1 at its first byte, and no bytes of it
-short : end_of 1 (0 ∷ 3 ∷ 0x67 ∷ 1 ∷ []) 0 ≡ Refused (refusal 1 2)
+short : end_of 1 (0 ∷ 3 ∷ 0x67 ∷ 1 ∷ []) 0 ≡ Err (refusal.Cut 2)
 unfolding be field when end_of
 short = refl
 
@@ -47,11 +47,11 @@ unfolding be field when end_of
 short-is = refl
 
 -- a set may be empty, and a list too
-empty-set : end_of 1 (0 ∷ 0 ∷ []) 0 ≡ End 2
+empty-set : end_of 1 (0 ∷ 0 ∷ []) 0 ≡ Ok 2
 unfolding be field when end_of
 empty-set = refl
 
-empty-list : end_of 0 [] 0 ≡ End 0
+empty-list : end_of 0 [] 0 ≡ Ok 0
 unfolding be field when end_of
 empty-list = refl
 
@@ -75,22 +75,22 @@ list-is = refl
 
 -- a set is put with its length; 12 with the length needed where there is no room, 9 where that is no number, and 13
 -- where the length has no two bytes
-put_is : set_in (0x68 ∷ []) 1 (replicate 5 9) ≡ wrote (put.Done 4) (9 ∷ 0 ∷ 1 ∷ 0x68 ∷ 9 ∷ [])
+put_is : set_in (0x68 ∷ []) 1 (replicate 5 9) ≡ wrote (Ok 4) (9 ∷ 0 ∷ 1 ∷ 0x68 ∷ 9 ∷ [])
 unfolding bytes when
 put_is = refl
 
-put-no-room : set_in (0x68 ∷ []) 3 (replicate 5 9) ≡ wrote (put.Refused (refusal 12 6)) (replicate 5 9)
+put-no-room : set_in (0x68 ∷ []) 3 (replicate 5 9) ≡ wrote (Err (refusal.TooSmall 6)) (replicate 5 9)
 unfolding bytes when
 put-no-room = refl
 
-put-no-number : set_in (0x68 ∷ []) 0xffff_ffff_ffff_fffe (replicate 5 9) ≡ wrote (put.Refused (refusal 9 0)) (replicate 5 9)
+put-no-number : set_in (0x68 ∷ []) 0xffff_ffff_ffff_fffe (replicate 5 9) ≡ wrote (Err refusal.Overflow) (replicate 5 9)
 unfolding bytes when
 put-no-number = refl
 
-put-longest : set_in (replicate 65535 7) 0 [] ≡ wrote (put.Refused (refusal 12 65537)) []
+put-longest : set_in (replicate 65535 7) 0 [] ≡ wrote (Err (refusal.TooSmall 65537)) []
 unfolding bytes when
 put-longest = refl
 
-put-too-long : set_in (replicate 65536 7) 0 [] ≡ wrote (put.Refused (refusal 13 0)) []
+put-too-long : set_in (replicate 65536 7) 0 [] ≡ wrote (Err refusal.Unwritable) []
 unfolding bytes when
 put-too-long = refl

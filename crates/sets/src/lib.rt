@@ -1,59 +1,37 @@
-#![tactic(auto)]
+#![tactic(auto, unfolding(numbers::specs::Field::when, numbers::specs::Field::field))]
 // Lists of parameter sets, as a decoder's configuration holds them (ISO/IEC 14496-15, 5.3.3.1.2): each set is its length
 // in two bytes, then so many bytes. A list does not say how many sets it has: its reader is told.
-ghost use Rattle.std.specs.Prelude.{◌≡◌};
+ghost use Rattle.std.specs.Prelude.{◌≡◌, ◌+◌, ◌≤◌, length, IfOk};
 ghost use Rattle.put.specs.Put.{wrote};
 ghost use Rattle.sets.specs.Sets.{one_of, end_of, nth_of, filled_by, set_in};
 
-use numbers::{Refusal, U16};
-use put::Put;
-
-// The position after the sets, or why they are not all there.
-#[derive(Clone, Copy)]
-pub enum Found {
-    End(usize),
-    Refused(Refusal),
-}
+use numbers::Refusal;
 
 // One set at `at`: first its length is whole, then its bytes.
-fn one(s: &[u8], at: usize) -> Found
-    ensures { result ≡ one_of s.now at }
+fn one(s: &[u8], at: usize) -> Result<usize, Refusal>
+    ensures value { result ≡ one_of s.now at }
+    ensures inside { IfOk result (λ e. (at + 2 ≤ e) × (e ≤ length s.now)) }
 {
-    let U16::Is(n) = numbers::u16_at(s, at) else {
-        return Found::Refused(Refusal {
-            number: 1,
-            detail: at,
-        });
-    };
+    let n = numbers::read::<u16>(s, at)?;
     let from = at + 2;
     let len = n as usize;
     if s.len() - from < len {
-        return Found::Refused(Refusal {
-            number: 1,
-            detail: from,
-        });
+        return Err(Refusal::Cut(from));
     }
-    Found::End(from + len)
+    Ok(from + len)
 }
 
 // The position after n sets from `at` on.
-pub fn end_of(s: &[u8], at: usize, n: usize) -> Found
+pub fn end_of(s: &[u8], at: usize, n: usize) -> Result<usize, Refusal>
     ensures { result ≡ end_of n s.now at }
 {
     let mut p = at;
     let mut left = n;
     while 0 < left {
-        match one(s, p) {
-            Found::Refused(q) => {
-                return Found::Refused(q);
-            }
-            Found::End(e) => {
-                p = e;
-                left = left - 1;
-            }
-        }
+        p = one(s, p)?;
+        left = left - 1;
     }
-    Found::End(p)
+    Ok(p)
 }
 
 // The i-th set from `at` on, counted from 0, without its length, as the part of the bytes where it lies; no bytes where
@@ -61,10 +39,10 @@ pub fn end_of(s: &[u8], at: usize, n: usize) -> Found
 pub fn nth(s: &[u8], at: usize, i: usize) -> &[u8]
     ensures { result.now ≡ nth_of i s.now at }
 {
-    let Found::End(start) = end_of(s, at, i) else {
+    let Ok(start) = end_of(s, at, i) else {
         return &s[..0];
     };
-    let Found::End(end) = one(s, start) else {
+    let Ok(end) = one(s, start) else {
         return &s[..0];
     };
     let from = start + 2;
@@ -76,36 +54,26 @@ pub fn filled_by(list: &[u8], n: usize) -> bool
     ensures { result ≡ filled_by n list.now }
 {
     match end_of(list, 0, n) {
-        Found::Refused(_) => false,
-        Found::End(end) => end == list.len(),
+        Err(_) => false,
+        Ok(end) => end == list.len(),
     }
 }
 
 // A set with its length, at `at` of a list. 13 where the length has no two bytes.
-pub fn put_set(list: &mut [u8], at: usize, set: &[u8]) -> Put
+pub fn put_set(list: &mut [u8], at: usize, set: &[u8]) -> Result<usize, Refusal>
     ensures { wrote result list.new ≡ set_in set.now at list.old }
 {
     let len = set.len();
     if 0xffff < len {
-        return Put::Refused(Refusal {
-            number: 13,
-            detail: 0,
-        });
+        return Err(Refusal::Unwritable);
     }
     if 0xffff_ffff_ffff_ffff - 2 - len < at {
-        return Put::Refused(Refusal {
-            number: 9,
-            detail: 0,
-        });
+        return Err(Refusal::Overflow);
     }
     let end = at + 2 + len;
     if list.len() < end {
-        return Put::Refused(Refusal {
-            number: 12,
-            detail: end,
-        });
+        return Err(Refusal::TooSmall(end));
     }
-    put::u16_at(list, at, len as u16);
-    put::part(list, at + 2, set);
-    Put::Done(end)
+    put::write::<u16>(list, at, len as u16)?;
+    put::part(list, at + 2, set)
 }

@@ -1,4 +1,4 @@
-#![tactic(auto)]
+#![tactic(auto, unfolding(numbers::specs::Field::when, numbers::specs::Field::field))]
 // Rows of at most eight fields, with as many slots: the fields of most boxes. They are read and written as the whole row
 // that has nothing behind them.
 ghost use Rattle.std.specs.Prelude.{◌≡◌};

@@ -6,8 +6,9 @@ ghost use Rattle.layout.specs.Write.{padded};
 use crate::wide;
 use layout::Field;
 use layout::read::Fields;
+use numbers::Refusal;
 
-pub fn by(part: &[u8], kind: u32, row: [Field; 8]) -> Fields
+pub fn by(part: &[u8], kind: u32, row: [Field; 8]) -> Result<Fields, Refusal>
     ensures { result ≡ read_of kind (padded row) part.now }
 {
     layout::read::by(part, kind, wide(row))

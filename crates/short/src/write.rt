@@ -5,7 +5,7 @@ ghost use Rattle.layout.specs.Write.{write_of, padded, slotted};
 
 use crate::wide;
 use layout::Field;
-use put::Put;
+use numbers::Refusal;
 
 // The slots of the whole row.
 fn slots(values: [u64; 8]) -> [u64; 24]
@@ -17,14 +17,20 @@ fn slots(values: [u64; 8]) -> [u64; 24]
     ]
 }
 
-pub fn by(out: &mut [u8], kind: u32, row: [Field; 8], values: [u64; 8], tail: &[u8]) -> Put
+pub fn by(
+    out: &mut [u8],
+    kind: u32,
+    row: [Field; 8],
+    values: [u64; 8],
+    tail: &[u8],
+) -> Result<usize, Refusal>
     ensures { wrote result out.new ≡ write_of kind (padded row) (slotted values) tail.now out.old }
 {
     layout_write::by(out, kind, wide(row), slots(values), tail)
 }
 
 // A box with no tail.
-pub fn plain(out: &mut [u8], kind: u32, row: [Field; 8], values: [u64; 8]) -> Put
+pub fn plain(out: &mut [u8], kind: u32, row: [Field; 8], values: [u64; 8]) -> Result<usize, Refusal>
     ensures { wrote result out.new ≡ write_of kind (padded row) (slotted values) [] out.old }
 {
     layout_write::plain(out, kind, wide(row), slots(values))

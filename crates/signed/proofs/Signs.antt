@@ -5,43 +5,44 @@ use native.Mathlib.Nat.{zero-add, pow-suc}
 use native.Mathlib.Omega.{arith}
 use lib.Dec.{ltb}
 use mathlib.Core.Bool.{Bool, true, false}
-use lib.IntN.{ℤ, pos, negsuc, ◌-ℤ◌}
+use lib.IntN.{ℤ, pos, negsuc}
 use lib.Signed.{mag}
-use mir.Syntax.{Width}
-use mir.Val.{bits, hbits, SFits, to_z, of_z}
-use mir.Facts.{to_z_pos, to_z-of_z}
+use mathlib.Core.Logic.{⊎_elim}
+use mir.Syntax.{Width, w16, w32, w64}
+use mir.Val.{bits, hbits, to_z}
+use Rattle.std.specs.Int.{cast_signed}
+use Rattle.std.proofs.lemmas.Int.{to_z_pos}
+use Rattle.std.proofs.Math.Facts.{to_z-neg}
+use Rattle.std.proofs.lemmas.Bool.{cases_lt}
 use borrow.Author.Tests.{lt-ltb, le-ltb}
 use Rattle.numbers.specs.Field.{when}
 use Rattle.signed.specs.Signed.{signed, unsigned}
 use Rattle.numbers.proofs.Chain.{is_lt, not-lt}
 
--- -1 - k
-minus : (k : ℕ) → negsuc 0 -ℤ pos k ≡ negsuc k
-minus zero = refl
-minus (suc k) = ap (λ n. negsuc (suc n)) (zero-add k)
-
--- w is the width of b bytes
-module _ (w : Width) (b : ℕ) (whole : 2 ^ hbits w * 2 ≡ 256 ^ b) (n : ℕ) where
-  pub low : n < 2 ^ hbits w → to_z w n ≡ signed b n
+-- what w, the width of b bytes, makes of their bits
+module _ (w : Width) (b : ℕ) (half : 2 ^ hbits w * 2 ≡ 256 ^ b) (whole : 2 ^ bits w ≡ 256 ^ b) (n : ℕ) (g : n < 256 ^ b) where
+  low : n < 2 ^ hbits w → to_z w n ≡ signed b n
   unfolding signed
-  low h = is_lt _ _ _ (n * 2) (256 ^ b) (omega arith) (to_z_pos w h)
+  low h = is_lt _ _ _ (n * 2) (256 ^ b) (omega arith) (to_z_pos w n h)
 
-  module _ (h : 2 ^ hbits w ≤ n) (g : n < 256 ^ b) where
-    abbrev k : ℕ
-    k = 256 ^ b - 1 - n
+  high : 2 ^ hbits w ≤ n → to_z w n ≡ signed b n
+  unfolding signed
+  high h =
+      let k = 256 ^ b - 1 - n in
+      let e : n ≡ 2 ^ bits w - suc k = omega arith in
+      not-lt _ _ _ (n * 2) (256 ^ b) (omega arith) (ap (to_z w) e ∙ to_z-neg w k (omega arith))
 
-    k-small : k < 2 ^ hbits w
-    k-small = omega arith
+  pub cast : to_z w n ≡ signed b n
+  cast = ⊎_elim low high (cases_lt n (2 ^ hbits w))
 
-    flipped : negsuc 0 -ℤ to_z w k ≡ negsuc k
-    flipped = ap (λ z. negsuc 0 -ℤ z) (to_z_pos w k-small) ∙ minus k
+pub cast16 : (n : ℕ) → n < 2 ^ 16 → cast_signed w16 n ≡ signed 2 n
+cast16 n h = cast w16 2 refl refl n h
 
-    pub high_fits : SFits w (negsuc 0 -ℤ to_z w k)
-    high_fits = subst (SFits w) (sym flipped) (record { sfits = k-small })
+pub cast32 : (n : ℕ) → n < 2 ^ 32 → cast_signed w32 n ≡ signed 4 n
+cast32 n h = cast w32 4 refl refl n h
 
-    pub high : to_z w (of_z w (negsuc 0 -ℤ to_z w k)) ≡ signed b n
-    unfolding signed
-    high = not-lt _ _ _ (n * 2) (256 ^ b) (omega arith) (to_z-of_z high_fits ∙ flipped)
+pub cast64 : (n : ℕ) → n < 2 ^ 64 → cast_signed w64 n ≡ signed 8 n
+cast64 n h = cast w64 8 refl refl n h
 
 -- a number that fits stands for one integer, and an integer in the range has one number
 pub unsigned_signed : (b n : ℕ) → n < 256 ^ b → unsigned b (signed b n) ≡ n

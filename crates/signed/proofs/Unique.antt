@@ -1,14 +1,6 @@
--- Each promise fixes one answer: two that meet it are equal. Stated on the promise itself. Assumes nothing.
+-- The promise fixes one answer: two that meet it are equal, at each width. Stated on the promise itself. Assumes nothing.
 use mathlib.Core.Path.{◌≡◌, sym, ◌∙◌}
-use Rattle.signed.proofs.i16_at.Reads as i16-at
-use Rattle.signed.proofs.i32_at.Reads as i32-at
-use Rattle.signed.proofs.i64_at.Reads as i64-at
+use Rattle.signed.proofs.read.Reads as read
 
-i16-at-fixed : (κs : _) (a : _) (r q : _) (s t : _) → i16-at.Post κs a r s → i16-at.Post κs a q t → r ≡ q
-i16-at-fixed κs a r q s t p o = p ∙ sym o
-
-i32-at-fixed : (κs : _) (a : _) (r q : _) (s t : _) → i32-at.Post κs a r s → i32-at.Post κs a q t → r ≡ q
-i32-at-fixed κs a r q s t p o = p ∙ sym o
-
-i64-at-fixed : (κs : _) (a : _) (r q : _) (s t : _) → i64-at.Post κs a r s → i64-at.Post κs a q t → r ≡ q
-i64-at-fixed κs a r q s t p o = p ∙ sym o
+read-fixed : (κs : _) (a : _) (b : _) (c : _) (d : _) (e : _) (f : _) (g : _) (x : _) (r q : _) (s t : _) → read.Post κs a b c d e f g x r s → read.Post κs a b c d e f g x q t → r ≡ q
+read-fixed κs a b c d e f g x r q s t p o = p ∙ sym o

@@ -1,11 +1,11 @@
 -- Worked examples of the definitions, computed. Assumes nothing.
+use Rattle.std.specs.Prelude.{Ok, Err}
 use mathlib.Core.Path.{◌≡◌, refl}
 use mathlib.Core.List.{[], ◌∷◌}
 use lib.IntN.{negsuc}
 use Rattle.numbers.specs.Number.{be}
 use Rattle.numbers.specs.Field.{when, field}
 use Rattle.signed.specs.Signed.{signed}
-use Rattle.signed.specs.declared.I16.TheVariants.{Is, Refused}
 
 -- all ones are -1. (negsuc k is -1 - k.)
 minus_one : signed 2 0xffff ≡ negsuc 0
@@ -18,6 +18,6 @@ unfolding when signed
 smallest = refl
 
 -- a field: -2 at 1
-field-at-1 : field Refused 2 (0 ∷ 0xff ∷ 0xfe ∷ []) 1 (λ n. Is (signed 2 n)) ≡ Is (negsuc 1)
+field-at-1 : field Err 2 (0 ∷ 0xff ∷ 0xfe ∷ []) 1 (λ n. Ok (signed 2 n)) ≡ Ok (negsuc 1)
 unfolding be when field signed
 field-at-1 = refl

@@ -1,40 +1,26 @@
-#![tactic(auto)]
+#![tactic(auto, unfolding(numbers::specs::Field::when, numbers::specs::Field::field))]
 // The box of sample tables (ISO/IEC 14496-12, 8.5.1): the tables of a track, from the boxes that hold them. Each box is
 // read by its own reader, in the bytes that it has in the file. The boxes are read in the order in which they stand
 // below, wherever they lie: the first fault in file order is for the file's parse to tell.
 ghost use Rattle.std.specs.Prelude.{◌≡◌};
-ghost use Rattle.stbl.specs.Stbl.{entries_at, moved_by, stts_at, ctts_at, stsc_at, stsz_at, stco_at, co64_at, stss_at};
+ghost use Rattle.stbl.specs.Stbl.{entries_at, stts_at, ctts_at, stsc_at, stsz_at, stco_at, co64_at, stss_at};
 ghost use Rattle.stbl.specs.Stbl.{later_of, chunks_at, read_all, fault_in, missing, first_wrong, faults, lacks};
 ghost use Rattle.stbl.specs.Stbl.{entries_in, table_in, optional_in, is_there, built, track_of};
 
 use numbers::Refusal;
 use places::kinds;
-use rows::Judged;
-use tables::{Chunks, Optional, Sizes, Table, Track};
-
-// Where a box lies, where it is there: its first byte and its size.
-#[derive(Clone, Copy)]
-pub enum Span {
-    Absent,
-    At(usize, usize),
-}
+use tables::{Chunks, Sizes, Table, Track};
 
 // Where the boxes of a track's tables lie.
 #[derive(Clone, Copy)]
 pub struct Boxes {
-    pub stts: Span,
-    pub ctts: Span,
-    pub stsc: Span,
-    pub stsz: Span,
-    pub stco: Span,
-    pub co64: Span,
-    pub stss: Span,
-}
-
-#[derive(Clone, Copy)]
-pub enum Found {
-    Is(Track),
-    Refused(Refusal),
+    pub stts: Option<(usize, usize)>,
+    pub ctts: Option<(usize, usize)>,
+    pub stsc: Option<(usize, usize)>,
+    pub stsz: Option<(usize, usize)>,
+    pub stco: Option<(usize, usize)>,
+    pub co64: Option<(usize, usize)>,
+    pub stss: Option<(usize, usize)>,
 }
 
 // What was read of a table's box: where its entries lie in the file, how many there are, and the size that all samples
@@ -46,130 +32,109 @@ struct Entries {
     pub common: u32,
 }
 
-#[derive(Clone, Copy)]
-enum Reading {
-    Absent,
-    Is(Entries),
-    Refused(Refusal),
-}
-
 // The last position that there is.
 const LAST: usize = 0xFFFF_FFFF_FFFF_FFFF;
 
 // Entries that begin at `place` of a box that begins at `start`.
-fn entries_at(start: usize, place: usize, count: u32, common: u32) -> Reading
+fn entries_at(
+    start: usize,
+    place: usize,
+    count: u32,
+    common: u32,
+) -> Result<Option<Entries>, Refusal>
     ensures { result ≡ entries_at start place count common }
 {
     if LAST - start < place {
-        return Reading::Refused(Refusal {
-            number: 9,
-            detail: 0,
-        });
+        return Err(Refusal::Overflow);
     }
-    Reading::Is(Entries {
+    Ok(Some(Entries {
         at: start + place,
-        count: count,
-        common: common,
-    })
+        count,
+        common,
+    }))
 }
 
-// A refusal of a box that begins at `start`.
-fn moved_by(start: usize, q: Refusal) -> Reading
-    ensures { result ≡ moved_by start q }
-{
-    if LAST - start < q.detail {
-        return Reading::Refused(Refusal {
-            number: 9,
-            detail: 0,
-        });
-    }
-    Reading::Refused(Refusal {
-        number: q.number,
-        detail: start + q.detail,
-    })
-}
-
-fn stts_at(file: &[u8], span: Span) -> Reading
+fn stts_at(file: &[u8], span: Option<(usize, usize)>) -> Result<Option<Entries>, Refusal>
     ensures { result ≡ stts_at file.now span }
 {
-    let Span::At(start, size) = span else {
-        return Reading::Absent;
+    let Some((start, size)) = span else {
+        return Ok(None);
     };
     match stts::read(parts::part(file, start, size)) {
-        stts::Found::Is(m, place) => entries_at(start, place, m.count, 0),
-        stts::Found::Refused(q) => moved_by(start, q),
+        Ok((m, place)) => entries_at(start, place, m.count, 0),
+        Err(q) => Err(q.moved(start)),
     }
 }
 
-fn ctts_at(file: &[u8], span: Span) -> Reading
+fn ctts_at(file: &[u8], span: Option<(usize, usize)>) -> Result<Option<Entries>, Refusal>
     ensures { result ≡ ctts_at file.now span }
 {
-    let Span::At(start, size) = span else {
-        return Reading::Absent;
+    let Some((start, size)) = span else {
+        return Ok(None);
     };
     match ctts::read(parts::part(file, start, size)) {
-        ctts::Found::Is(m, place) => entries_at(start, place, m.count, 0),
-        ctts::Found::Refused(q) => moved_by(start, q),
+        Ok((m, place)) => entries_at(start, place, m.count, 0),
+        Err(q) => Err(q.moved(start)),
     }
 }
 
-fn stsc_at(file: &[u8], span: Span) -> Reading
+fn stsc_at(file: &[u8], span: Option<(usize, usize)>) -> Result<Option<Entries>, Refusal>
     ensures { result ≡ stsc_at file.now span }
 {
-    let Span::At(start, size) = span else {
-        return Reading::Absent;
+    let Some((start, size)) = span else {
+        return Ok(None);
     };
     match stsc::read(parts::part(file, start, size)) {
-        stsc::Found::Is(m, place) => entries_at(start, place, m.count, 0),
-        stsc::Found::Refused(q) => moved_by(start, q),
+        Ok((m, place)) => entries_at(start, place, m.count, 0),
+        Err(q) => Err(q.moved(start)),
     }
 }
 
-fn stsz_at(file: &[u8], span: Span) -> Reading
+fn stsz_at(file: &[u8], span: Option<(usize, usize)>) -> Result<Option<Entries>, Refusal>
     ensures { result ≡ stsz_at file.now span }
 {
-    let Span::At(start, size) = span else {
-        return Reading::Absent;
+    let Some((start, size)) = span else {
+        return Ok(None);
     };
     match stsz::read(parts::part(file, start, size)) {
-        stsz::Found::Is(m, place) => entries_at(start, place, m.count, m.sample_size),
-        stsz::Found::Refused(q) => moved_by(start, q),
+        Ok((m, place)) => entries_at(start, place, m.count, m.sample_size),
+        Err(q) => Err(q.moved(start)),
     }
 }
 
-fn stco_at(file: &[u8], span: Span) -> Reading
+fn stco_at(file: &[u8], span: Option<(usize, usize)>) -> Result<Option<Entries>, Refusal>
     ensures { result ≡ stco_at file.now span }
 {
-    let Span::At(start, size) = span else {
-        return Reading::Absent;
+    let Some((start, size)) = span else {
+        return Ok(None);
     };
     match stco::read(parts::part(file, start, size)) {
-        stco::Found::Is(m, place) => entries_at(start, place, m.count, 0),
-        stco::Found::Refused(q) => moved_by(start, q),
+        Ok((m, place)) => entries_at(start, place, m.count, 0),
+        Err(q) => Err(q.moved(start)),
     }
 }
 
-fn co64_at(file: &[u8], span: Span) -> Reading
+fn co64_at(file: &[u8], span: Option<(usize, usize)>) -> Result<Option<Entries>, Refusal>
     ensures { result ≡ co64_at file.now span }
 {
-    let Span::At(start, size) = span else {
-        return Reading::Absent;
+    let Some((start, size)) = span else {
+        return Ok(None);
     };
     match co64::read(parts::part(file, start, size)) {
-        co64::Found::Is(m, place) => entries_at(start, place, m.count, 0),
-        co64::Found::Refused(q) => moved_by(start, q),
+        Ok((m, place)) => entries_at(start, place, m.count, 0),
+        Err(q) => Err(q.moved(start)),
     }
 }
 
-fn stss_at(file: &[u8], span: Span) -> Reading
+fn stss_at(file: &[u8], span: Option<(usize, usize)>) -> Result<Option<Entries>, Refusal>
     ensures { result ≡ stss_at file.now span }
 {
-    let Span::At(start, size) = span else {
-        return Reading::Absent;
+    let Some((start, size)) = span else {
+        return Ok(None);
     };
     match stss::read(parts::part(file, start, size)) {
-        stss::Found::Is(m, place) => entries_at(start, place, m.count, 0),
-        stss::Found::Refused(q) => moved_by(start, q),
+        Ok((m, place)) => entries_at(start, place, m.count, 0),
+        Err(q) => Err(q.moved(start)),
     }
 }
 
@@ -180,30 +145,31 @@ fn later(a: usize, b: usize) -> usize
 }
 
 // The chunks: one box of the two. Where both are there, none is read.
-fn chunks_at(file: &[u8], stco: Span, co64: Span) -> Reading
+fn chunks_at(
+    file: &[u8],
+    stco: Option<(usize, usize)>,
+    co64: Option<(usize, usize)>,
+) -> Result<Option<Entries>, Refusal>
     ensures { result ≡ chunks_at file.now stco co64 }
 {
-    let Span::At(narrow, _) = stco else {
+    let Some((narrow, _)) = stco else {
         return co64_at(file, co64);
     };
-    let Span::At(wide, _) = co64 else {
+    let Some((wide, _)) = co64 else {
         return stco_at(file, stco);
     };
-    Reading::Refused(Refusal {
-        number: 6,
-        detail: later(narrow, wide),
-    })
+    Err(Refusal::Twice(later(narrow, wide)))
 }
 
 // All that is read. Fields in the order in which the first fault wins.
 #[derive(Clone, Copy)]
 struct Readings {
-    pub stts: Reading,
-    pub ctts: Reading,
-    pub stsc: Reading,
-    pub stsz: Reading,
-    pub chunks: Reading,
-    pub stss: Reading,
+    pub stts: Result<Option<Entries>, Refusal>,
+    pub ctts: Result<Option<Entries>, Refusal>,
+    pub stsc: Result<Option<Entries>, Refusal>,
+    pub stsz: Result<Option<Entries>, Refusal>,
+    pub chunks: Result<Option<Entries>, Refusal>,
+    pub stss: Result<Option<Entries>, Refusal>,
 }
 
 fn read_all(file: &[u8], boxes: Boxes) -> Readings
@@ -226,40 +192,31 @@ fn read_all(file: &[u8], boxes: Boxes) -> Readings
     }
 }
 
-fn fault_in(r: Reading) -> Judged
+fn fault_in(r: Result<Option<Entries>, Refusal>) -> Result<(), Refusal>
     ensures { result ≡ fault_in r }
 {
-    match r {
-        Reading::Absent => Judged::Fine,
-        Reading::Is(_) => Judged::Fine,
-        Reading::Refused(q) => Judged::Wrong(q),
-    }
+    r?;
+    Ok(())
 }
 
-fn missing(r: Reading, kind: u32) -> Judged
+fn missing(r: Result<Option<Entries>, Refusal>, kind: u32) -> Result<(), Refusal>
     ensures { result ≡ missing kind r }
 {
     match r {
-        Reading::Absent => Judged::Wrong(Refusal {
-            number: 5,
-            detail: kind as usize,
-        }),
-        Reading::Is(_) => Judged::Fine,
-        Reading::Refused(_) => Judged::Fine,
+        Ok(None) => Err(Refusal::Missing(kind)),
+        Ok(Some(_)) | Err(_) => Ok(()),
     }
 }
 
-fn first_wrong(a: Judged, b: Judged) -> Judged
+fn first_wrong(a: Result<(), Refusal>, b: Result<(), Refusal>) -> Result<(), Refusal>
     ensures { result ≡ first_wrong a b }
 {
-    match a {
-        Judged::Fine => b,
-        Judged::Wrong(q) => Judged::Wrong(q),
-    }
+    a?;
+    b
 }
 
 // The first fault that a reader tells.
-fn faults(r: Readings) -> Judged
+fn faults(r: Readings) -> Result<(), Refusal>
     ensures { result ≡ faults r }
 {
     let stts = r.stts;
@@ -274,7 +231,7 @@ fn faults(r: Readings) -> Judged
 }
 
 // The first of the needed boxes that is missing.
-fn lacks(r: Readings) -> Judged
+fn lacks(r: Readings) -> Result<(), Refusal>
     ensures { result ≡ lacks r }
 {
     let stts = r.stts;
@@ -288,17 +245,12 @@ fn lacks(r: Readings) -> Judged
     )
 }
 
-fn entries_in(r: Reading) -> Entries
+fn entries_in(r: Result<Option<Entries>, Refusal>) -> Entries
     ensures { result ≡ entries_in r }
 {
     match r {
-        Reading::Is(e) => e,
-        Reading::Absent => Entries {
-            at: 0,
-            count: 0,
-            common: 0,
-        },
-        Reading::Refused(_) => Entries {
+        Ok(Some(e)) => e,
+        Ok(None) | Err(_) => Entries {
             at: 0,
             count: 0,
             common: 0,
@@ -306,7 +258,7 @@ fn entries_in(r: Reading) -> Entries
     }
 }
 
-fn table_in(r: Reading) -> Table
+fn table_in(r: Result<Option<Entries>, Refusal>) -> Table
     ensures { result ≡ table_in r }
 {
     let e = entries_in(r);
@@ -316,26 +268,22 @@ fn table_in(r: Reading) -> Table
     }
 }
 
-fn optional_in(r: Reading) -> Optional
+fn optional_in(r: Result<Option<Entries>, Refusal>) -> Option<Table>
     ensures { result ≡ optional_in r }
 {
     match r {
-        Reading::Is(e) => Optional::At(Table {
+        Ok(Some(e)) => Some(Table {
             at: e.at,
             count: e.count,
         }),
-        Reading::Absent => Optional::Absent,
-        Reading::Refused(_) => Optional::Absent,
+        Ok(None) | Err(_) => None,
     }
 }
 
-fn is_there(span: Span) -> bool
+fn is_there(span: Option<(usize, usize)>) -> bool
     ensures { result ≡ is_there span }
 {
-    match span {
-        Span::Absent => false,
-        Span::At(_, _) => true,
-    }
+    span.is_some()
 }
 
 fn built(r: Readings, wide: bool) -> Track
@@ -361,20 +309,18 @@ fn built(r: Readings, wide: bool) -> Track
         stco: Chunks {
             at: offsets.at,
             count: offsets.count,
-            wide: wide,
+            wide,
         },
         stss: optional_in(stss),
     }
 }
 
 // The tables of the track whose boxes lie there in the file.
-pub fn track(file: &[u8], boxes: Boxes) -> Found
+pub fn track(file: &[u8], boxes: Boxes) -> Result<Track, Refusal>
     ensures { result ≡ track_of file.now boxes }
 {
     let all = read_all(file, boxes);
     let wide = boxes.co64;
-    match first_wrong(faults(all), lacks(all)) {
-        Judged::Fine => Found::Is(built(all, is_there(wide))),
-        Judged::Wrong(q) => Found::Refused(q),
-    }
+    first_wrong(faults(all), lacks(all))?;
+    Ok(built(all, is_there(wide)))
 }

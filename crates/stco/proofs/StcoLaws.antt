@@ -1,4 +1,5 @@
 -- stco: what is written reads back the same, and a canonical box gives its own bytes. Assumes nothing.
+use Rattle.std.specs.Prelude.{Ok}
 use mathlib.Core.Path.{◌≡◌, refl}
 use mathlib.Core.List.{List, ◌++◌}
 use Prim.Native.Nat.{ℕ, ◌≤◌, ◌*◌}
@@ -6,20 +7,18 @@ use native.Mathlib.Omega.{arith}
 use lib.ListN.{length, take, drop}
 use Rattle.numbers.specs.Field.{when}
 use Rattle.put.specs.Put.{wrote}
-use Rattle.put.specs.declared.Put.TheVariants.{Done}
 use Rattle.layout.specs.Rule.{rule_of}
 use Rattle.layout.specs.Canonical.{slots, firsts, Canonical}
 use Rattle.rounds.proofs.TableBoxes.{table-back, table-own}
 use Rattle.stco.specs.Stco.{kind, fields, from, to, cells, stco_of, stco_in}
 use Rattle.stco.specs.declared.Stco.{Stco}
-use Rattle.stco.specs.declared.Found.TheVariants.{Is, Refused}
 
-pub stco-back : (m : Stco) (entries buf : List ℕ) (n : ℕ) (out : List ℕ) → stco_in m entries buf ≡ wrote (Done n) out →
-    (place : ℕ) × (stco_of (take n out) ≡ Is m place) × (drop place (take n out) ≡ entries)
+pub stco-back : (m : Stco) (entries buf : List ℕ) (n : ℕ) (out : List ℕ) → stco_in m entries buf ≡ wrote (Ok n) out →
+    (place : ℕ) × (stco_of (take n out) ≡ Ok (m, place)) × (drop place (take n out) ≡ entries)
 unfolding slots firsts rule_of when
-stco-back = table-back Is Refused from to cells 4 kind fields (omega arith) (λ m. refl)
+stco-back = table-back from to cells 4 kind fields (omega arith) (λ m. refl)
 
-pub stco-own : (b : List ℕ) (m : Stco) (place : ℕ) → Canonical kind fields (cells m * 4) b → stco_of b ≡ Is m place → (buf : List ℕ) → length b ≤ length buf →
-    stco_in m (drop place b) buf ≡ wrote (Done (length b)) (b ++ drop (length b) buf)
+pub stco-own : (b : List ℕ) (m : Stco) (place : ℕ) → Canonical kind fields (cells m * 4) b → stco_of b ≡ Ok (m, place) → (buf : List ℕ) → length b ≤ length buf →
+    stco_in m (drop place b) buf ≡ wrote (Ok (length b)) (b ++ drop (length b) buf)
 unfolding slots firsts rule_of when
-stco-own = table-own Is Refused from to cells 4 kind fields (λ a b p q e. ((cc), (cc))) (λ r m p e. let z : ◌≡◌ {A = ℕ} 0 1 = cc in omega arith) (λ v. refl) (omega arith)
+stco-own = table-own from to cells 4 kind fields (λ v. refl) (omega arith)

@@ -1,5 +1,5 @@
 -- The chunk offsets (ISO/IEC 14496-12, 8.7.5) in 32 bits: a count, and as many offsets. Assumes nothing.
-use Rattle.std.specs.Prelude.{ℕ, ◌+◌, ◌*◌, List, [], ◌∷◌, get_or}
+use Rattle.std.specs.Prelude.{ℕ, ◌+◌, ◌*◌, List, [], ◌∷◌, get_or, Result, Ok, Err}
 use Rattle.numbers.specs.Field.{field}
 use Rattle.put.specs.Put.{Wrote}
 use Rattle.layout.specs.Read.{read_of}
@@ -8,10 +8,7 @@ use Rattle.layout.specs.Table.{tabled, write_table}
 use Rattle.layout.specs.declared.Field.{Field}
 use Rattle.layout.specs.declared.Field.TheVariants.{Number, Version, Flags}
 use Rattle.stco.specs.declared.Stco.{Stco}
-use Rattle.stco.specs.declared.Found.{Found}
-use Rattle.stco.specs.declared.Found.TheVariants.{Is, Refused}
-use Rattle.numbers.specs.declared.U32.{U32}
-use Rattle.numbers.specs.declared.U32.TheVariants as number
+use Rattle.numbers.specs.declared.Refusal.{Refusal}
 
 abbrev pub kind : ℕ
 kind = 0x7374636f
@@ -30,12 +27,12 @@ to m = slotted (m.version ∷ m.flags ∷ m.count ∷ [])
 abbrev pub cells : Stco → ℕ
 cells m = m.count
 
-abbrev pub stco_of : List ℕ → Found
-stco_of part = tabled Is Refused from cells 4 part (read_of kind fields part)
+abbrev pub stco_of : List ℕ → Result (Stco × ℕ) Refusal
+stco_of part = tabled from cells 4 part (read_of kind fields part)
 
 abbrev pub stco_in : Stco → List ℕ → List ℕ → Wrote
 stco_in m entries out = write_table kind fields (to m) (cells m * 4) entries out
 
 -- the i-th offset
-abbrev pub entry_of : List ℕ → ℕ → U32
-entry_of entries i = field number.Refused 4 entries (i * 4) number.Is
+abbrev pub entry_of : List ℕ → ℕ → Result ℕ Refusal
+entry_of entries i = field Err 4 entries (i * 4) Ok

@@ -1,4 +1,5 @@
 -- stsc: what is written reads back the same, and a canonical box gives its own bytes. Assumes nothing.
+use Rattle.std.specs.Prelude.{Ok}
 use mathlib.Core.Path.{◌≡◌, refl}
 use mathlib.Core.List.{List, ◌++◌}
 use Prim.Native.Nat.{ℕ, ◌≤◌}
@@ -6,25 +7,23 @@ use native.Mathlib.Omega.{arith}
 use lib.ListN.{length, take, drop}
 use Rattle.numbers.specs.Field.{when}
 use Rattle.put.specs.Put.{wrote}
-use Rattle.put.specs.declared.Put.TheVariants.{Done}
 use Rattle.layout.specs.Rule.{rule_of}
 use Rattle.layout.specs.Canonical.{slots, firsts, Canonical}
 use Rattle.rows.proofs.Moved.{moved, judge-moved}
 use Rattle.rounds.proofs.JudgedBoxes.{judged-back, judged-own}
 use Rattle.stsc.specs.Stsc.{kind, fields, from, to, size, judge, stsc_of, stsc_in, cells}
 use Rattle.stsc.specs.declared.Stsc.{Stsc}
-use Rattle.stsc.specs.declared.Found.TheVariants.{Is, Refused}
 
 -- the verdict does not hang on where the entries lie
 move : (m : Stsc) (s : ℕ) (b : List ℕ) → s ≤ length b → judge m b s ≡ moved s (judge m (drop s b) 0)
 move m s b h = judge-moved s b h m.count cells
 
-pub stsc-back : (m : Stsc) (entries buf : List ℕ) (n : ℕ) (out : List ℕ) → stsc_in m entries buf ≡ wrote (Done n) out →
-    (place : ℕ) × (stsc_of (take n out) ≡ Is m place) × (drop place (take n out) ≡ entries)
+pub stsc-back : (m : Stsc) (entries buf : List ℕ) (n : ℕ) (out : List ℕ) → stsc_in m entries buf ≡ wrote (Ok n) out →
+    (place : ℕ) × (stsc_of (take n out) ≡ Ok (m, place)) × (drop place (take n out) ≡ entries)
 unfolding slots firsts rule_of when
-stsc-back = judged-back Is Refused from to size judge move kind fields (omega arith) (λ m. refl)
+stsc-back = judged-back from to size judge move kind fields (omega arith) (λ m. refl)
 
-pub stsc-own : (b : List ℕ) (m : Stsc) (place : ℕ) → Canonical kind fields (size m) b → stsc_of b ≡ Is m place → (buf : List ℕ) → length b ≤ length buf →
-    stsc_in m (drop place b) buf ≡ wrote (Done (length b)) (b ++ drop (length b) buf)
+pub stsc-own : (b : List ℕ) (m : Stsc) (place : ℕ) → Canonical kind fields (size m) b → stsc_of b ≡ Ok (m, place) → (buf : List ℕ) → length b ≤ length buf →
+    stsc_in m (drop place b) buf ≡ wrote (Ok (length b)) (b ++ drop (length b) buf)
 unfolding slots firsts rule_of when
-stsc-own = judged-own Is Refused from to size judge move kind fields (λ a b p q e. ((cc), (cc))) (λ r m p e. let z : ◌≡◌ {A = ℕ} 0 1 = cc in omega arith) (λ v. refl) (omega arith)
+stsc-own = judged-own from to size judge move kind fields (λ v. refl) (omega arith)

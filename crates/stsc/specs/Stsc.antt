@@ -1,6 +1,6 @@
 -- Which chunk has how many samples (ISO/IEC 14496-12, 8.7.4): a count, and as many runs. First chunks begin at 1 and
 -- rise strictly, and no run has 0 samples in a chunk (A21). Assumes nothing.
-use Rattle.std.specs.Prelude.{ℕ, ◌+◌, ◌*◌, List, [], ◌∷◌, get_or}
+use Rattle.std.specs.Prelude.{ℕ, ◌+◌, ◌*◌, List, [], ◌∷◌, get_or, Result, Ok, Err}
 use Rattle.numbers.specs.Field.{field}
 use Rattle.put.specs.Put.{Wrote}
 use Rattle.layout.specs.Read.{read_of}
@@ -11,12 +11,9 @@ use Rattle.rows.specs.Rows.{entries_of}
 use Rattle.rows.specs.Judge.{judged_of, write_judged}
 use Rattle.rows.specs.declared.Cell.{Cell}
 use Rattle.rows.specs.declared.Cell.TheVariants.{FromOne, Least, Any, Nothing}
-use Rattle.rows.specs.declared.Judged.{Judged}
 use Rattle.stsc.specs.declared.Stsc.{Stsc}
-use Rattle.stsc.specs.declared.Found.{Found}
-use Rattle.stsc.specs.declared.Found.TheVariants.{Is, Refused}
-use Rattle.stsc.specs.declared.Listed.{Listed}
-use Rattle.stsc.specs.declared.Listed.TheVariants as entry
+use Rattle.stsc.specs.declared.Run.{Run}
+use Rattle.numbers.specs.declared.Refusal.{Refusal}
 
 abbrev pub kind : ℕ
 kind = 0x73747363
@@ -39,19 +36,19 @@ abbrev pub size : Stsc → ℕ
 size m = m.count * 12
 
 -- how its entries are judged, from a position on
-abbrev pub judge : Stsc → List ℕ → ℕ → Judged
+abbrev pub judge : Stsc → List ℕ → ℕ → Result (Unit {0}) Refusal
 judge m b at = entries_of m.count cells b at 0
 
-abbrev pub stsc_of : List ℕ → Found
-stsc_of part = judged_of Is Refused from judge part (read_of kind fields part)
+abbrev pub stsc_of : List ℕ → Result (Stsc × ℕ) Refusal
+stsc_of part = judged_of from judge part (read_of kind fields part)
 
 abbrev pub stsc_in : Stsc → List ℕ → List ℕ → Wrote
 stsc_in m entries out = write_judged kind fields (to m) (size m) (judge m entries 0) entries out
 
 -- the i-th run
-abbrev pub entry_of : List ℕ → ℕ → Listed
+abbrev pub entry_of : List ℕ → ℕ → Result Run Refusal
 entry_of entries i =
-    field entry.Refused 4 entries (i * 12)
-    (λ c. field entry.Refused 4 entries (i * 12 + 4)
-    (λ n. field entry.Refused 4 entries (i * 12 + 8)
-    (λ d. entry.Is (record { first_chunk = c; samples_per_chunk = n; sample_description_index = d }))))
+    field Err 4 entries (i * 12)
+    (λ c. field Err 4 entries (i * 12 + 4)
+    (λ n. field Err 4 entries (i * 12 + 8)
+    (λ d. Ok (record { first_chunk = c; samples_per_chunk = n; sample_description_index = d }))))

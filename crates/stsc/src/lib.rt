@@ -1,4 +1,4 @@
-#![tactic(auto)]
+#![tactic(auto, unfolding(numbers::specs::Field::when, numbers::specs::Field::field))]
 // Which chunk has how many samples (ISO/IEC 14496-12, 8.7.4): a count, and as many runs. First chunks begin at 1 and
 // rise strictly, and no run has 0 samples in a chunk (A21).
 ghost use Rattle.std.specs.Prelude.{◌≡◌};
@@ -6,22 +6,14 @@ ghost use Rattle.put.specs.Put.{wrote};
 ghost use Rattle.stsc.specs.Stsc.{stsc_of, stsc_in, entry_of};
 
 use layout::Field;
-use numbers::{Refusal, U32};
-use put::Put;
-use rows::{Cell, Judged};
+use numbers::Refusal;
+use rows::Cell;
 
 #[derive(Clone, Copy)]
 pub struct Stsc {
     pub version: u8,
     pub flags: u32,
     pub count: u32,
-}
-
-// The box, and where its entries begin.
-#[derive(Clone, Copy)]
-pub enum Found {
-    Is(Stsc, usize),
-    Refused(Refusal),
 }
 
 pub const KIND: u32 = 0x73747363;
@@ -45,16 +37,11 @@ const CELLS: [Cell; 4] = [
     Cell::Nothing,
 ];
 
-pub fn read(part: &[u8]) -> Found
+// The box, and where its entries begin.
+pub fn read(part: &[u8]) -> Result<(Stsc, usize), Refusal>
     ensures { result ≡ stsc_of part.now }
 {
-    let got = short::read::by(part, KIND, ROW);
-    if got.number != 0 {
-        return Found::Refused(Refusal {
-            number: got.number,
-            detail: got.place,
-        });
-    }
+    let got = short::read::by(part, KIND, ROW)?;
     let v = got.values;
     let place = got.place;
     let end = got.end;
@@ -63,29 +50,21 @@ pub fn read(part: &[u8]) -> Found
         flags: v[1] as u32,
         count: v[2] as u32,
     };
-    match rows::judge(&part[..end], place, stsc.count, CELLS) {
-        Judged::Fine => Found::Is(stsc, place),
-        Judged::Wrong(q) => Found::Refused(q),
-    }
+    let () = rows::judge(&part[..end], place, stsc.count, CELLS)?;
+    Ok((stsc, place))
 }
 
 // The entries are lent as the bytes that they have in the box; 13 where they are not as many as the count says, or
 // where the reader would refuse one.
-pub fn write(stsc: Stsc, entries: &[u8], out: &mut [u8]) -> Put
+pub fn write(stsc: Stsc, entries: &[u8], out: &mut [u8]) -> Result<usize, Refusal>
     ensures { wrote result out.new ≡ stsc_in stsc entries.now out.old }
 {
     let size = stsc.count as u64 * 12;
     if entries.len() as u64 != size {
-        return Put::Refused(Refusal {
-            number: 13,
-            detail: 0,
-        });
+        return Err(Refusal::Unwritable);
     }
-    let Judged::Fine = rows::judge(entries, 0, stsc.count, CELLS) else {
-        return Put::Refused(Refusal {
-            number: 13,
-            detail: 0,
-        });
+    let Ok(()) = rows::judge(entries, 0, stsc.count, CELLS) else {
+        return Err(Refusal::Unwritable);
     };
     let v = [
         stsc.version as u64,
@@ -107,36 +86,15 @@ pub struct Run {
     pub sample_description_index: u32,
 }
 
-#[derive(Clone, Copy)]
-pub enum Listed {
-    Is(Run),
-    Refused(Refusal),
-}
-
 // The i-th run, counted from 0, of the bytes of the entries.
-pub fn entry(entries: &[u8], i: u32) -> Listed
+pub fn entry(entries: &[u8], i: u32) -> Result<Run, Refusal>
     ensures { result ≡ entry_of entries.now i }
 {
     let at = (i as usize) * 12;
-    let U32::Is(chunk) = numbers::u32_at(entries, at) else {
-        return Listed::Refused(Refusal {
-            number: 1,
-            detail: at,
-        });
-    };
-    let U32::Is(samples) = numbers::u32_at(entries, at + 4) else {
-        return Listed::Refused(Refusal {
-            number: 1,
-            detail: at + 4,
-        });
-    };
-    let U32::Is(description) = numbers::u32_at(entries, at + 8) else {
-        return Listed::Refused(Refusal {
-            number: 1,
-            detail: at + 8,
-        });
-    };
-    Listed::Is(Run {
+    let chunk = numbers::read::<u32>(entries, at)?;
+    let samples = numbers::read::<u32>(entries, at + 4)?;
+    let description = numbers::read::<u32>(entries, at + 8)?;
+    Ok(Run {
         first_chunk: chunk,
         samples_per_chunk: samples,
         sample_description_index: description,

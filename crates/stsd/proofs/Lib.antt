@@ -1,4 +1,3 @@
 pub mod StsdLaws
-mod Cases
 mod Unique
 mod Vectors

@@ -1,12 +1,13 @@
 -- Worked examples of the definitions, computed. Assumes nothing.
+use Rattle.std.specs.Prelude.{Ok, Err}
 use mathlib.Core.Path.{◌≡◌, refl}
 use mathlib.Core.List.{List, [], ◌++◌}
 use Prim.Native.Nat.{ℕ}
 use lib.ListN.{replicate}
 use Rattle.numbers.specs.Number.{be, bytes}
-use Rattle.numbers.specs.Field.{refusal, field, when}
+use Rattle.numbers.specs.Field.{field, when}
+use Rattle.numbers.specs.declared.Refusal.TheVariants as refusal
 use Rattle.put.specs.Put.{wrote}
-use Rattle.put.specs.declared.Put.TheVariants as put
 use Rattle.layout.specs.Rule.{rule_of}
 use Rattle.layout.specs.Read.{one, decode}
 use Rattle.layout.specs.Write.{lay, encode}
@@ -14,7 +15,6 @@ use Rattle.rounds.proofs.Example.{box}
 use Rattle.children.specs.Children.{row_of, nth_in}
 use Rattle.stsd.specs.Stsd as stsd-is
 use Rattle.stsd.specs.declared.Stsd.{Stsd}
-use Rattle.stsd.specs.declared.Found.TheVariants as stsd
 
 abbrev two : Stsd
 two = record { version = 0; flags = 0; count = 2 }
@@ -24,7 +24,7 @@ abbrev many : List ℕ
 many = box 0x73747364 0 0 (bytes 4 2 ++ bytes 8 0x8_6162_6364 ++ bytes 8 0x8_6162_6365)
 
 -- the sample entries end where the box does
-stsd-read : stsd-is.stsd_of (many ++ bytes 1 7) ≡ stsd.Is two
+stsd-read : stsd-is.stsd_of (many ++ bytes 1 7) ≡ Ok two
 unfolding be bytes field when rule_of one decode
 stsd-read = refl
 
@@ -65,7 +65,7 @@ unfolding be bytes field when rule_of one decode row_of nth_in
 stsd-entry-refused = refl
 
 -- a count says nothing of what follows it
-stsd-fewer : stsd-is.stsd_of (box 0x73747364 0 0 (bytes 4 2)) ≡ stsd.Is two
+stsd-fewer : stsd-is.stsd_of (box 0x73747364 0 0 (bytes 4 2)) ≡ Ok two
 unfolding be bytes field when rule_of one decode
 stsd-fewer = refl
 
@@ -73,14 +73,14 @@ stsd-none : stsd-is.entries_of (box 0x73747364 0 0 (bytes 4 2)) ≡ []
 unfolding be bytes field when rule_of one decode
 stsd-none = refl
 
-stsd-version : stsd-is.stsd_of (box 0x73747364 1 0 (bytes 4 2)) ≡ stsd.Refused (refusal 7 8)
+stsd-version : stsd-is.stsd_of (box 0x73747364 1 0 (bytes 4 2)) ≡ Err (refusal.Version 8)
 unfolding be bytes field when rule_of one decode
 stsd-version = refl
 
-stsd-cut : stsd-is.stsd_of (box 0x73747364 0 0 (bytes 3 2)) ≡ stsd.Refused (refusal 1 12)
+stsd-cut : stsd-is.stsd_of (box 0x73747364 0 0 (bytes 3 2)) ≡ Err (refusal.Cut 12)
 unfolding be bytes field when rule_of one decode
 stsd-cut = refl
 
-stsd-written : stsd-is.stsd_in two (bytes 8 0x8_6162_6364 ++ bytes 8 0x8_6162_6365) (replicate 33 9) ≡ wrote (put.Done 32) (many ++ replicate 1 9)
+stsd-written : stsd-is.stsd_in two (bytes 8 0x8_6162_6364 ++ bytes 8 0x8_6162_6365) (replicate 33 9) ≡ wrote (Ok 32) (many ++ replicate 1 9)
 unfolding bytes when rule_of lay encode
 stsd-written = refl

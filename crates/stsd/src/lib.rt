@@ -1,4 +1,4 @@
-#![tactic(auto)]
+#![tactic(auto, unfolding(numbers::specs::Field::when, numbers::specs::Field::field))]
 // How the samples of a track are coded (ISO/IEC 14496-12, 8.5.2): how many sample entries there are, and then their
 // boxes, to the box's end. Whether there are as many as the count says is told by the tree of boxes (A47).
 ghost use Rattle.std.specs.Prelude.{◌≡◌};
@@ -7,19 +7,12 @@ ghost use Rattle.stsd.specs.Stsd.{stsd_of, entries_of, entry_of, stsd_in};
 
 use layout::Field;
 use numbers::Refusal;
-use put::Put;
 
 #[derive(Clone, Copy)]
 pub struct Stsd {
     pub version: u8,
     pub flags: u32,
     pub count: u32,
-}
-
-#[derive(Clone, Copy)]
-pub enum Found {
-    Is(Stsd),
-    Refused(Refusal),
 }
 
 pub const KIND: u32 = 0x73747364;
@@ -35,18 +28,12 @@ pub const ROW: [Field; 8] = [
     Field::Nothing,
 ];
 
-pub fn read(part: &[u8]) -> Found
+pub fn read(part: &[u8]) -> Result<Stsd, Refusal>
     ensures { result ≡ stsd_of part.now }
 {
-    let got = short::read::by(part, KIND, ROW);
-    if got.number != 0 {
-        return Found::Refused(Refusal {
-            number: got.number,
-            detail: got.place,
-        });
-    }
+    let got = short::read::by(part, KIND, ROW)?;
     let v = got.values;
-    Found::Is(Stsd {
+    Ok(Stsd {
         version: v[0] as u8,
         flags: v[1] as u32,
         count: v[2] as u32,
@@ -66,18 +53,18 @@ pub fn entry(part: &[u8], i: u32) -> &[u8]
     ensures { result.now ≡ entry_of part.now i }
 {
     match read(part) {
-        Found::Is(stsd) => {
+        Ok(stsd) => {
             if stsd.count <= i {
                 return &part[..0];
             }
             let list = entries(part);
             boxparts::nth_box(list, i)
         }
-        Found::Refused(_) => &part[..0],
+        Err(_) => &part[..0],
     }
 }
 
-pub fn write(stsd: Stsd, entries: &[u8], out: &mut [u8]) -> Put
+pub fn write(stsd: Stsd, entries: &[u8], out: &mut [u8]) -> Result<usize, Refusal>
     ensures { wrote result out.new ≡ stsd_in stsd entries.now out.old }
 {
     let v = [

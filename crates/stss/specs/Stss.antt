@@ -1,6 +1,6 @@
 -- The sync samples (ISO/IEC 14496-12, 8.6.2): a count, and as many sample numbers, from 1 on and strictly rising
 -- (A21). Assumes nothing.
-use Rattle.std.specs.Prelude.{ℕ, ◌+◌, ◌*◌, List, [], ◌∷◌, get_or}
+use Rattle.std.specs.Prelude.{ℕ, ◌+◌, ◌*◌, List, [], ◌∷◌, get_or, Result, Ok, Err}
 use Rattle.numbers.specs.Field.{field}
 use Rattle.put.specs.Put.{Wrote}
 use Rattle.layout.specs.Read.{read_of}
@@ -11,12 +11,8 @@ use Rattle.rows.specs.Rows.{entries_of}
 use Rattle.rows.specs.Judge.{judged_of, write_judged}
 use Rattle.rows.specs.declared.Cell.{Cell}
 use Rattle.rows.specs.declared.Cell.TheVariants.{Rising, Nothing}
-use Rattle.rows.specs.declared.Judged.{Judged}
 use Rattle.stss.specs.declared.Stss.{Stss}
-use Rattle.stss.specs.declared.Found.{Found}
-use Rattle.stss.specs.declared.Found.TheVariants.{Is, Refused}
-use Rattle.numbers.specs.declared.U32.{U32}
-use Rattle.numbers.specs.declared.U32.TheVariants as number
+use Rattle.numbers.specs.declared.Refusal.{Refusal}
 
 abbrev pub kind : ℕ
 kind = 0x73747373
@@ -39,15 +35,15 @@ abbrev pub size : Stss → ℕ
 size m = m.count * 4
 
 -- how its entries are judged, from a position on
-abbrev pub judge : Stss → List ℕ → ℕ → Judged
+abbrev pub judge : Stss → List ℕ → ℕ → Result (Unit {0}) Refusal
 judge m b at = entries_of m.count cells b at 0
 
-abbrev pub stss_of : List ℕ → Found
-stss_of part = judged_of Is Refused from judge part (read_of kind fields part)
+abbrev pub stss_of : List ℕ → Result (Stss × ℕ) Refusal
+stss_of part = judged_of from judge part (read_of kind fields part)
 
 abbrev pub stss_in : Stss → List ℕ → List ℕ → Wrote
 stss_in m entries out = write_judged kind fields (to m) (size m) (judge m entries 0) entries out
 
 -- the i-th sample number
-abbrev pub entry_of : List ℕ → ℕ → U32
-entry_of entries i = field number.Refused 4 entries (i * 4) number.Is
+abbrev pub entry_of : List ℕ → ℕ → Result ℕ Refusal
+entry_of entries i = field Err 4 entries (i * 4) Ok

@@ -1,26 +1,18 @@
-#![tactic(auto)]
+#![tactic(auto, unfolding(numbers::specs::Field::when, numbers::specs::Field::field))]
 // The sync samples (ISO/IEC 14496-12, 8.6.2): a count, and as many sample numbers, from 1 on and strictly rising (A21).
 ghost use Rattle.std.specs.Prelude.{◌≡◌};
 ghost use Rattle.put.specs.Put.{wrote};
 ghost use Rattle.stss.specs.Stss.{stss_of, stss_in, entry_of};
 
 use layout::Field;
-use numbers::{Refusal, U32};
-use put::Put;
-use rows::{Cell, Judged};
+use numbers::Refusal;
+use rows::Cell;
 
 #[derive(Clone, Copy)]
 pub struct Stss {
     pub version: u8,
     pub flags: u32,
     pub count: u32,
-}
-
-// The box, and where its entries begin.
-#[derive(Clone, Copy)]
-pub enum Found {
-    Is(Stss, usize),
-    Refused(Refusal),
 }
 
 pub const KIND: u32 = 0x73747373;
@@ -39,16 +31,11 @@ pub const ROW: [Field; 8] = [
 // A sample number, above the one before.
 const CELLS: [Cell; 4] = [Cell::Rising(4), Cell::Nothing, Cell::Nothing, Cell::Nothing];
 
-pub fn read(part: &[u8]) -> Found
+// The box, and where its entries begin.
+pub fn read(part: &[u8]) -> Result<(Stss, usize), Refusal>
     ensures { result ≡ stss_of part.now }
 {
-    let got = short::read::by(part, KIND, ROW);
-    if got.number != 0 {
-        return Found::Refused(Refusal {
-            number: got.number,
-            detail: got.place,
-        });
-    }
+    let got = short::read::by(part, KIND, ROW)?;
     let v = got.values;
     let place = got.place;
     let end = got.end;
@@ -57,29 +44,21 @@ pub fn read(part: &[u8]) -> Found
         flags: v[1] as u32,
         count: v[2] as u32,
     };
-    match rows::judge(&part[..end], place, stss.count, CELLS) {
-        Judged::Fine => Found::Is(stss, place),
-        Judged::Wrong(q) => Found::Refused(q),
-    }
+    let () = rows::judge(&part[..end], place, stss.count, CELLS)?;
+    Ok((stss, place))
 }
 
 // The entries are lent as the bytes that they have in the box; 13 where they are not as many as the count says, or
 // where the reader would refuse one.
-pub fn write(stss: Stss, entries: &[u8], out: &mut [u8]) -> Put
+pub fn write(stss: Stss, entries: &[u8], out: &mut [u8]) -> Result<usize, Refusal>
     ensures { wrote result out.new ≡ stss_in stss entries.now out.old }
 {
     let size = stss.count as u64 * 4;
     if entries.len() as u64 != size {
-        return Put::Refused(Refusal {
-            number: 13,
-            detail: 0,
-        });
+        return Err(Refusal::Unwritable);
     }
-    let Judged::Fine = rows::judge(entries, 0, stss.count, CELLS) else {
-        return Put::Refused(Refusal {
-            number: 13,
-            detail: 0,
-        });
+    let Ok(()) = rows::judge(entries, 0, stss.count, CELLS) else {
+        return Err(Refusal::Unwritable);
     };
     let v = [
         stss.version as u64,
@@ -95,8 +74,8 @@ pub fn write(stss: Stss, entries: &[u8], out: &mut [u8]) -> Put
 }
 
 // The i-th sample number, counted from 0, of the bytes of the entries.
-pub fn entry(entries: &[u8], i: u32) -> U32
+pub fn entry(entries: &[u8], i: u32) -> Result<u32, Refusal>
     ensures { result ≡ entry_of entries.now i }
 {
-    numbers::u32_at(entries, (i as usize) * 4)
+    numbers::read::<u32>(entries, (i as usize) * 4)
 }

@@ -1,4 +1,5 @@
 -- How many sizes are listed, and what hangs on it. Assumes nothing.
+use Rattle.std.specs.Prelude.{Option}
 use mathlib.Core.Path.{◌≡◌, ap, ◌∙◌}
 use mathlib.Core.List.{List}
 use mathlib.Core.Bool.{Bool, true, false}
@@ -7,7 +8,6 @@ use native.Mathlib.Omega.{arith}
 use lib.Dec.{eqb}
 use Rattle.numbers.specs.Field.{when}
 use Rattle.layout.specs.Table.{cut_of}
-use Rattle.layout.specs.declared.table.Cut.{Cut}
 use Rattle.stsz.specs.Stsz.{listed_of}
 
 pub listed-most : (common count : ℕ) → listed_of common count ≤ count
@@ -18,5 +18,5 @@ listed-most common count = by (eqb common 0)
     by true = omega arith
     by false = omega arith
 
-pub by_count : (n m w : ℕ) (b : List ℕ) (at : ℕ) (c : Cut) → c ≡ cut_of n w b at → n ≡ m → c ≡ cut_of m w b at
+pub by_count : (n m w : ℕ) (b : List ℕ) (at : ℕ) (c : Option ℕ) → c ≡ cut_of n w b at → n ≡ m → c ≡ cut_of m w b at
 by_count n m w b at c e q = e ∙ ap (λ k. cut_of k w b at) q

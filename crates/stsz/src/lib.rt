@@ -1,4 +1,4 @@
-#![tactic(auto)]
+#![tactic(auto, unfolding(numbers::specs::Field::when, numbers::specs::Field::field))]
 // The sample sizes (ISO/IEC 14496-12, 8.7.3.2): a size that all samples have in common, or 0, a count, and where it is
 // 0 as many sizes.
 ghost use Rattle.std.specs.Prelude.{◌≡◌};
@@ -6,9 +6,7 @@ ghost use Rattle.put.specs.Put.{wrote};
 ghost use Rattle.stsz.specs.Stsz.{listed_of, stsz_of, stsz_in, entry_of};
 
 use layout::Field;
-use layout::table::Cut;
-use numbers::{Refusal, U32};
-use put::Put;
+use numbers::Refusal;
 
 #[derive(Clone, Copy)]
 pub struct Stsz {
@@ -16,13 +14,6 @@ pub struct Stsz {
     pub flags: u32,
     pub sample_size: u32,
     pub count: u32,
-}
-
-// The box, and where its entries begin.
-#[derive(Clone, Copy)]
-pub enum Found {
-    Is(Stsz, usize),
-    Refused(Refusal),
 }
 
 pub const KIND: u32 = 0x7374737a;
@@ -45,16 +36,11 @@ fn listed(common: u64, count: u64) -> u64
     if common == 0 { count } else { 0 }
 }
 
-pub fn read(part: &[u8]) -> Found
+// The box, and where its entries begin.
+pub fn read(part: &[u8]) -> Result<(Stsz, usize), Refusal>
     ensures { result ≡ stsz_of part.now }
 {
-    let got = short::read::by(part, KIND, ROW);
-    if got.number != 0 {
-        return Found::Refused(Refusal {
-            number: got.number,
-            detail: got.place,
-        });
-    }
+    let got = short::read::by(part, KIND, ROW)?;
     let v = got.values;
     let place = got.place;
     let end = got.end;
@@ -67,24 +53,18 @@ pub fn read(part: &[u8]) -> Found
     let cells = listed(v[2], v[3]);
     let cut = layout::table::first_cut(&part[..end], place, cells, 4);
     match cut {
-        Cut::Whole => Found::Is(stsz, place),
-        Cut::At(p) => Found::Refused(Refusal {
-            number: 1,
-            detail: p,
-        }),
+        None => Ok((stsz, place)),
+        Some(p) => Err(Refusal::Cut(p)),
     }
 }
 
 // The entries are lent as the bytes that they have in the box; 13 where they are not as many as the count says.
-pub fn write(stsz: Stsz, entries: &[u8], out: &mut [u8]) -> Put
+pub fn write(stsz: Stsz, entries: &[u8], out: &mut [u8]) -> Result<usize, Refusal>
     ensures { wrote result out.new ≡ stsz_in stsz entries.now out.old }
 {
     let size = listed(stsz.sample_size as u64, stsz.count as u64) * 4;
     if entries.len() as u64 != size {
-        return Put::Refused(Refusal {
-            number: 13,
-            detail: 0,
-        });
+        return Err(Refusal::Unwritable);
     }
     let v = [
         stsz.version as u64,
@@ -100,8 +80,8 @@ pub fn write(stsz: Stsz, entries: &[u8], out: &mut [u8]) -> Put
 }
 
 // The i-th size, counted from 0, of the bytes of the entries.
-pub fn entry(entries: &[u8], i: u32) -> U32
+pub fn entry(entries: &[u8], i: u32) -> Result<u32, Refusal>
     ensures { result ≡ entry_of entries.now i }
 {
-    numbers::u32_at(entries, (i as usize) * 4)
+    numbers::read::<u32>(entries, (i as usize) * 4)
 }

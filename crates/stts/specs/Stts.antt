@@ -1,6 +1,6 @@
 -- The decoding times (ISO/IEC 14496-12, 8.6.1.2): a count, and as many pairs of a count and a delta. A count of 0 in a
 -- pair is allowed (A53). Assumes nothing.
-use Rattle.std.specs.Prelude.{ℕ, ◌+◌, ◌*◌, List, [], ◌∷◌, get_or}
+use Rattle.std.specs.Prelude.{ℕ, ◌+◌, ◌*◌, List, [], ◌∷◌, get_or, Result, Ok, Err}
 use Rattle.numbers.specs.Field.{field}
 use Rattle.put.specs.Put.{Wrote}
 use Rattle.layout.specs.Read.{read_of}
@@ -9,10 +9,8 @@ use Rattle.layout.specs.Table.{tabled, write_table}
 use Rattle.layout.specs.declared.Field.{Field}
 use Rattle.layout.specs.declared.Field.TheVariants.{Number, Version, Flags}
 use Rattle.stts.specs.declared.Stts.{Stts}
-use Rattle.stts.specs.declared.Found.{Found}
-use Rattle.stts.specs.declared.Found.TheVariants.{Is, Refused}
-use Rattle.stts.specs.declared.Listed.{Listed}
-use Rattle.stts.specs.declared.Listed.TheVariants as entry
+use Rattle.stts.specs.declared.Run.{Run}
+use Rattle.numbers.specs.declared.Refusal.{Refusal}
 
 abbrev pub kind : ℕ
 kind = 0x73747473
@@ -31,14 +29,14 @@ to m = slotted (m.version ∷ m.flags ∷ m.count ∷ [])
 abbrev pub cells : Stts → ℕ
 cells m = m.count * 2
 
-abbrev pub stts_of : List ℕ → Found
-stts_of part = tabled Is Refused from cells 4 part (read_of kind fields part)
+abbrev pub stts_of : List ℕ → Result (Stts × ℕ) Refusal
+stts_of part = tabled from cells 4 part (read_of kind fields part)
 
 abbrev pub stts_in : Stts → List ℕ → List ℕ → Wrote
 stts_in m entries out = write_table kind fields (to m) (cells m * 4) entries out
 
 -- the i-th pair
-abbrev pub entry_of : List ℕ → ℕ → Listed
+abbrev pub entry_of : List ℕ → ℕ → Result Run Refusal
 entry_of entries i =
-    field entry.Refused 4 entries (i * 8)
-    (λ c. field entry.Refused 4 entries (i * 8 + 4) (λ d. entry.Is (record { sample_count = c; sample_delta = d })))
+    field Err 4 entries (i * 8)
+    (λ c. field Err 4 entries (i * 8 + 4) (λ d. Ok (record { sample_count = c; sample_delta = d })))

@@ -1,4 +1,4 @@
-#![tactic(auto)]
+#![tactic(auto, unfolding(numbers::specs::Field::when, numbers::specs::Field::field))]
 // The decoding times (ISO/IEC 14496-12, 8.6.1.2): a count, and as many pairs of a count and a delta. A count of 0 in a
 // pair is allowed (A53).
 ghost use Rattle.std.specs.Prelude.{◌≡◌};
@@ -6,22 +6,13 @@ ghost use Rattle.put.specs.Put.{wrote};
 ghost use Rattle.stts.specs.Stts.{stts_of, stts_in, entry_of};
 
 use layout::Field;
-use layout::table::Cut;
-use numbers::{Refusal, U32};
-use put::Put;
+use numbers::Refusal;
 
 #[derive(Clone, Copy)]
 pub struct Stts {
     pub version: u8,
     pub flags: u32,
     pub count: u32,
-}
-
-// The box, and where its entries begin.
-#[derive(Clone, Copy)]
-pub enum Found {
-    Is(Stts, usize),
-    Refused(Refusal),
 }
 
 pub const KIND: u32 = 0x73747473;
@@ -37,16 +28,11 @@ pub const ROW: [Field; 8] = [
     Field::Nothing,
 ];
 
-pub fn read(part: &[u8]) -> Found
+// The box, and where its entries begin.
+pub fn read(part: &[u8]) -> Result<(Stts, usize), Refusal>
     ensures { result ≡ stts_of part.now }
 {
-    let got = short::read::by(part, KIND, ROW);
-    if got.number != 0 {
-        return Found::Refused(Refusal {
-            number: got.number,
-            detail: got.place,
-        });
-    }
+    let got = short::read::by(part, KIND, ROW)?;
     let v = got.values;
     let place = got.place;
     let end = got.end;
@@ -58,24 +44,18 @@ pub fn read(part: &[u8]) -> Found
     let cells = v[2] * 2;
     let cut = layout::table::first_cut(&part[..end], place, cells, 4);
     match cut {
-        Cut::Whole => Found::Is(stts, place),
-        Cut::At(p) => Found::Refused(Refusal {
-            number: 1,
-            detail: p,
-        }),
+        None => Ok((stts, place)),
+        Some(p) => Err(Refusal::Cut(p)),
     }
 }
 
 // The entries are lent as the bytes that they have in the box; 13 where they are not as many as the count says.
-pub fn write(stts: Stts, entries: &[u8], out: &mut [u8]) -> Put
+pub fn write(stts: Stts, entries: &[u8], out: &mut [u8]) -> Result<usize, Refusal>
     ensures { wrote result out.new ≡ stts_in stts entries.now out.old }
 {
     let size = stts.count as u64 * 2 * 4;
     if entries.len() as u64 != size {
-        return Put::Refused(Refusal {
-            number: 13,
-            detail: 0,
-        });
+        return Err(Refusal::Unwritable);
     }
     let v = [
         stts.version as u64,
@@ -97,30 +77,14 @@ pub struct Run {
     pub sample_delta: u32,
 }
 
-#[derive(Clone, Copy)]
-pub enum Listed {
-    Is(Run),
-    Refused(Refusal),
-}
-
 // The i-th pair, counted from 0, of the bytes of the entries.
-pub fn entry(entries: &[u8], i: u32) -> Listed
+pub fn entry(entries: &[u8], i: u32) -> Result<Run, Refusal>
     ensures { result ≡ entry_of entries.now i }
 {
     let at = (i as usize) * 8;
-    let U32::Is(count) = numbers::u32_at(entries, at) else {
-        return Listed::Refused(Refusal {
-            number: 1,
-            detail: at,
-        });
-    };
-    let U32::Is(delta) = numbers::u32_at(entries, at + 4) else {
-        return Listed::Refused(Refusal {
-            number: 1,
-            detail: at + 4,
-        });
-    };
-    Listed::Is(Run {
+    let count = numbers::read::<u32>(entries, at)?;
+    let delta = numbers::read::<u32>(entries, at + 4)?;
+    Ok(Run {
         sample_count: count,
         sample_delta: delta,
     })

@@ -6,9 +6,9 @@
 // the last whole row is not looked at.
 ghost use Rattle.std.specs.Prelude.{◌≤◌, length};
 
-use numbers::{Refusal, U32, U64};
+use numbers::Refusal;
 use std::io::Read;
-use summary::{Summary, Summed};
+use summary::Summary;
 
 const ROW: usize = 24;
 
@@ -50,23 +50,23 @@ fn print_summary(rt: &impl Print, s: Summary) {
 
 fn print_refusal(rt: &impl Print, q: Refusal) {
     text(rt, b"refused\t");
-    number(rt, q.number as u64);
+    number(rt, u64::from(q.code()));
     text(rt, b"\t");
-    number(rt, q.detail as u64);
+    number(rt, q.detail() as u64);
     text(rt, b"\n");
 }
 
 fn four(row: &[u8], at: usize) -> u32 {
-    match numbers::u32_at(row, at) {
-        U32::Is(n) => n,
-        U32::Refused(_) => 0,
+    match numbers::read::<u32>(row, at) {
+        Ok(n) => n,
+        Err(_) => 0,
     }
 }
 
 fn eight(row: &[u8], at: usize) -> u64 {
-    match numbers::u64_at(row, at) {
-        U64::Is(n) => n,
-        U64::Refused(_) => 0,
+    match numbers::read::<u64>(row, at) {
+        Ok(n) => n,
+        Err(_) => 0,
     }
 }
 
@@ -79,8 +79,8 @@ fn print_row(rt: &impl Print, row: &[u8]) {
         four(row, 20),
     );
     match told {
-        Summed::Is(s) => print_summary(rt, s),
-        Summed::Refused(q) => print_refusal(rt, q),
+        Ok(s) => print_summary(rt, s),
+        Err(q) => print_refusal(rt, q),
     }
 }
 

@@ -1,12 +1,13 @@
 -- Worked examples of the definitions, computed. Assumes nothing.
+use Rattle.std.specs.Prelude.{Ok, Err}
 use mathlib.Core.Path.{◌≡◌, refl}
 use Prim.Native.Nat.{◌*◌}
 use mathlib.Core.Bool.{false}
 use lib.IntN.{pos, negsuc}
 use lib.Ieee.{fin, round}
-use Rattle.numbers.specs.Field.{refusal, when}
+use Rattle.numbers.specs.Field.{when}
+use Rattle.numbers.specs.declared.Refusal.TheVariants as refusal
 use Rattle.summary.specs.Figures.{over, fixed_of, rate_of, summed_of}
-use Rattle.summary.specs.declared.Summed.TheVariants.{Is, Refused}
 
 -- `fin false m e` is m times 2 to the power of e: 1.5, the least above 0, a width of 1920, and the largest
 half : fixed_of 0x1_8000 ≡ fin false 3 (negsuc 0)
@@ -50,32 +51,32 @@ fastest = refl
 
 -- case 4 from a duration: 60.06 seconds by a timescale of 30,000, in a picture of 1920 by 1080
 case-4-summed : summed_of 1800 1_801_800 30_000 (1920 * 65536) (1080 * 65536)
-    ≡ Is (record { frame_rate = fin false 29 (pos 0); width = fin false 15 (pos 7); height = fin false 135 (pos 3); micros = 60_060_000 })
+    ≡ Ok (record { frame_rate = fin false 29 (pos 0); width = fin false 15 (pos 7); height = fin false 135 (pos 3); micros = 60_060_000 })
 unfolding when round
 case-4-summed = refl
 
 -- whole milliseconds alone count: 1.999 of them are one
 one-milli : summed_of 1 1_999 1_000_000 0 0
-    ≡ Is (record { frame_rate = fin false 125 (pos 3); width = fin false 0 (pos 0); height = fin false 0 (pos 0); micros = 1_999 })
+    ≡ Ok (record { frame_rate = fin false 125 (pos 3); width = fin false 0 (pos 0); height = fin false 0 (pos 0); micros = 1_999 })
 unfolding when round
 one-milli = refl
 
 no-milli : summed_of 1 999 1_000_000 0 0
-    ≡ Is (record { frame_rate = fin false 0 (pos 0); width = fin false 0 (pos 0); height = fin false 0 (pos 0); micros = 999 })
+    ≡ Ok (record { frame_rate = fin false 0 (pos 0); width = fin false 0 (pos 0); height = fin false 0 (pos 0); micros = 999 })
 unfolding when round
 no-milli = refl
 
 -- case 5: timescale 1, duration 18,446,744,073,709 fits; one more is 9
 case-5-fits : summed_of 1800 18_446_744_073_709 1 0 0
-    ≡ Is (record { frame_rate = fin false 0 (pos 0); width = fin false 0 (pos 0); height = fin false 0 (pos 0); micros = 18_446_744_073_709_000_000 })
+    ≡ Ok (record { frame_rate = fin false 0 (pos 0); width = fin false 0 (pos 0); height = fin false 0 (pos 0); micros = 18_446_744_073_709_000_000 })
 unfolding when round
 case-5-fits = refl
 
-case-5-one-more : summed_of 1800 18_446_744_073_710 1 0 0 ≡ Refused (refusal 9 0)
+case-5-one-more : summed_of 1800 18_446_744_073_710 1 0 0 ≡ Err refusal.Overflow
 unfolding when
 case-5-one-more = refl
 
 -- a timescale of 0 is 8, however long the duration
-no-timescale : summed_of 1800 18_446_744_073_710 0 0 0 ≡ Refused (refusal 8 0)
+no-timescale : summed_of 1800 18_446_744_073_710 0 0 0 ≡ Err (refusal.Value 0)
 unfolding when
 no-timescale = refl

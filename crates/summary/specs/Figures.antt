@@ -1,16 +1,13 @@
 -- The summary of a track (document 01, Summary and Duration). Its figures are values of binary64, IEEE 754: `round` gives
 -- the one nearest to a fraction, and proofs/Exact.antt says that it is the fraction itself. Width and height are 16.16
 -- numbers (ISO/IEC 14496-12, 8.3.2). Assumes nothing.
-use Rattle.std.specs.Prelude.{ℕ, ◌*◌, ◌/◌, false, eqb, Float}
+use Rattle.std.specs.Prelude.{ℕ, ◌*◌, ◌/◌, false, eqb, Float, Result, Ok, Err}
 use Rattle.std.specs.Float.{binary64}
 use Rattle.std.specs.Float.Ieee.{round}
 use Rattle.numbers.specs.Field.{when}
-use Rattle.numbers.specs.declared.U64.{U64}
-use Rattle.numbers.specs.declared.U64.TheVariants as number
 use Rattle.duration.specs.Duration.{micros_of}
 use Rattle.summary.specs.declared.Summary.{Summary}
-use Rattle.summary.specs.declared.Summed.{Summed}
-use Rattle.summary.specs.declared.Summed.TheVariants.{Is, Refused}
+use Rattle.numbers.specs.declared.Refusal.{Refusal}
 
 -- the value nearest to a / c
 abbrev pub over : ℕ → ℕ → Float
@@ -33,9 +30,9 @@ summary_of count width height micros =
     record { frame_rate = rate_of count (micros / 1000); width = fixed_of width; height = fixed_of height; micros = micros }
 
 -- the same from what is told of the microseconds; their refusal is the summary's
-abbrev pub summed_by : ℕ → ℕ → ℕ → U64 → Summed
-summed_by count width height (number.Is micros) = Is (summary_of count width height micros)
-summed_by count width height (number.Refused q) = Refused q
+abbrev pub summed_by : ℕ → ℕ → ℕ → Result ℕ Refusal → Result Summary Refusal
+summed_by count width height (Ok micros) = Ok (summary_of count width height micros)
+summed_by count width height (Err q) = Err q
 
-abbrev pub summed_of : ℕ → ℕ → ℕ → ℕ → ℕ → Summed
+abbrev pub summed_of : ℕ → ℕ → ℕ → ℕ → ℕ → Result Summary Refusal
 summed_of count duration timescale width height = summed_by count width height (micros_of duration timescale)

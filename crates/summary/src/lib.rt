@@ -1,9 +1,9 @@
-#![tactic(auto)]
+#![tactic(auto, unfolding(numbers::specs::Field::when, numbers::specs::Field::field))]
 // A track's summary: how long it lasts, its frame rate, and the width and height at which it is shown.
 ghost use Rattle.std.specs.Prelude.{◌≡◌};
 ghost use Rattle.summary.specs.Figures.{fixed_of, rate_of, summed_of};
 
-use numbers::{Refusal, U64};
+use numbers::Refusal;
 
 // The frame rate is in whole frames to a second; the duration is in microseconds.
 #[derive(Clone, Copy)]
@@ -12,13 +12,6 @@ pub struct Summary {
     pub width: f64,
     pub height: f64,
     pub micros: u64,
-}
-
-// A summary, or the refusal of its duration.
-#[derive(Clone, Copy)]
-pub enum Summed {
-    Is(Summary),
-    Refused(Refusal),
 }
 
 // A raw 16.16 number as a number. It has 32 bits, and the divisor is a power of 2, so nothing is lost.
@@ -40,19 +33,21 @@ pub fn rate(count: u32, millis: u64) -> f64
 }
 
 // The summary of a track with so many samples: its duration is in units of the timescale, its width and height are raw.
-pub fn of(count: u32, duration: u64, timescale: u32, width: u32, height: u32) -> Summed
+pub fn of(
+    count: u32,
+    duration: u64,
+    timescale: u32,
+    width: u32,
+    height: u32,
+) -> Result<Summary, Refusal>
     ensures { result ≡ summed_of count duration timescale width height }
 {
-    match duration::micros(duration, timescale) {
-        U64::Refused(q) => Summed::Refused(q),
-        U64::Is(micros) => {
-            let millis = micros / 1000;
-            Summed::Is(Summary {
-                frame_rate: rate(count, millis),
-                width: fixed(width),
-                height: fixed(height),
-                micros,
-            })
-        }
-    }
+    let micros = duration::micros(duration, timescale)?;
+    let millis = micros / 1000;
+    Ok(Summary {
+        frame_rate: rate(count, millis),
+        width: fixed(width),
+        height: fixed(height),
+        micros,
+    })
 }

@@ -1,5 +1,6 @@
 -- Worked examples of the definitions, computed: the tracks by tables and by runs, what fits, and the sweep of a file of 70
 -- bytes with one mdat. Assumes nothing.
+use Rattle.std.specs.Prelude.{Option, Some, None}
 use Prim.Native.Nat.{ℕ}
 use mathlib.Core.Path.{◌≡◌, refl}
 use mathlib.Core.List.{List, [], ◌∷◌, ◌++◌}
@@ -12,7 +13,6 @@ use Rattle.signed.specs.Signed.{signed}
 use Rattle.trun.specs.Trun.{optional}
 use Rattle.samples.specs.declared.Sample.{Sample}
 use Rattle.tables.specs.Tables.{pair_at, group_at, offset_at, size_at, number_at}
-use Rattle.tables.specs.declared.Optional.TheVariants.{Absent}
 use Rattle.tables.specs.declared.Track as tables
 use Rattle.tables.proofs.Vectors as tabled
 use Rattle.runs.specs.Values as values
@@ -20,14 +20,13 @@ use Rattle.runs.specs.Samples.{sample_at, run_samples}
 use Rattle.runtable.specs.Table.{row_at, rows_of}
 use Rattle.fragments.specs.Samples.{count_of, mine}
 use Rattle.fragments.proofs.Vectors as ran
-use Rattle.verdicts.specs.declared.Asked.{Asked}
-use Rattle.verdicts.specs.declared.Asked.TheVariants.{Passes, Found}
 use Rattle.verdicts.specs.Findings.{track, asked}
 use Rattle.verdicts.specs.Sweep.{sweep_from, sweep}
 use Rattle.places.specs.Kinds.{mdat}
 use Rattle.kin.specs.Kin.{Boxes, boxes}
 use Rattle.payloads.specs.Payloads.{payloads_in, payloads_from}
 use Rattle.sweeps.specs.Tracks.{fitting, tracks_in}
+use Rattle.verdicts.specs.declared.Finding.{Finding}
 
 -- WHAT FITS
 
@@ -67,11 +66,11 @@ file =
 abbrev of : ℕ → tables.Track
 of chunks = record {
   stts = record { at = 0; count = 1 };
-  ctts = Absent;
+  ctts = None;
   stsc = record { at = 8; count = 1 };
   stsz = record { at = 20; count = 2; common = 0 };
   stco = record { at = chunks; count = 2; wide = false };
-  stss = Absent;
+  stss = None;
 }
 
 -- at 60 and 64
@@ -90,13 +89,13 @@ abbrev recorded : ℕ → Boxes
 recorded size = boxes (52 ∷ []) (size ∷ []) (mdat ∷ []) (0 ∷ []) (1 ∷ [])
 
 -- tracks 7 and 9, with an mdat of that size
-abbrev swept : ℕ → tables.Track → tables.Track → ℕ → Asked
+abbrev swept : ℕ → tables.Track → tables.Track → ℕ → Option Finding
 swept size t u count = asked (sweep (payloads_from file (recorded size) 1 0) (tracks_in false file [] (take count (7 ∷ 9 ∷ [])) (take count (t ∷ u ∷ []))))
 
-abbrev finding : ℕ → ℕ → ℕ → ℕ → Asked
-finding n t s p = Found (record { number = n; track = t; sample = s; position = p; gap = pos 0 })
+abbrev finding : ℕ → ℕ → ℕ → ℕ → Option Finding
+finding n t s p = Some (record { number = n; track = t; sample = s; position = p; gap = pos 0 })
 
-clean : swept 18 first second 2 ≡ Passes
+clean : swept 18 first second 2 ≡ None
 unfolding be bytes field when signed pair_at group_at offset_at size_at number_at payloads_in sweep_from
 clean = refl
 

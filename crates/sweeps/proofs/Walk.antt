@@ -1,4 +1,5 @@
 -- The walk: what holds at every turn of it, and what each turn does. Assumes nothing.
+use Rattle.std.specs.Prelude.{Some, None}
 use Prim.Native.Nat.{ℕ, ◌-◌, ◌≤◌, ◌<◌, min}
 use mathlib.Core.Path.{◌≡◌, refl, sym, ap, ◌∙◌, subst}
 use mathlib.Core.List.{List, [], ◌∷◌}
@@ -8,14 +9,12 @@ use lib.ListN.{get_or, length, set, take, replicate, length-set}
 use Rattle.numbers.proofs.Chain.{is_eq}
 use Rattle.kin.specs.Kin.{Boxes, stands}
 use Rattle.tables.specs.declared.Track as tables
-use Rattle.tables.specs.declared.Optional.TheVariants.{Absent}
 use Rattle.lanes.specs.declared.site.Site as tabled
 use Rattle.lanes.specs.Site as table
 use Rattle.runs.specs.declared.Run.{Run}
 use Rattle.fragments.specs.declared.Lane as ran
 use Rattle.fragments.specs.Lane as run
 use Rattle.verdicts.specs.declared.Finding.{Finding}
-use Rattle.verdicts.specs.declared.Asked.TheVariants.{Found}
 use Rattle.verdicts.specs.Findings.{Track, track, Span, asked}
 use Rattle.verdicts.specs.Sweep.{sweep_from}
 use Rattle.verdicts.proofs.Steps.{sweep-goes}
@@ -59,7 +58,7 @@ module _ (all : List Span) (start : List Track) (n : ℕ) (hs : List Head) (xs :
   by : (s : Turn) → r ≡ s → TurnBy all (span p e) m k hs xs w.left s
   by s q = subst (TurnBy all (span p e) m k hs xs w.left) q (i all m xs w.left w.as_many w.state)
 
-  at-stop : (f : Finding) → r ≡ Stop f → Found f ≡ asked (sweep_from all all start)
+  at-stop : (f : Finding) → r ≡ Stop f → Some f ≡ asked (sweep_from all all start)
   at-stop f q = ap asked (sym (by (Stop f) q) ∙ w.same)
 
   at-stray : (h : Head) → r ≡ Stray h → stray_of all h ≡ sweep_from all all start
@@ -139,16 +138,16 @@ no-track = track 0 true []
 abbrev no-tables : tables.Track
 no-tables = record {
   stts = record { at = 0; count = 0 };
-  ctts = Absent;
+  ctts = None;
   stsc = record { at = 0; count = 0 };
   stsz = record { at = 0; count = 0; common = 0 };
   stco = record { at = 0; count = 0; wide = false };
-  stss = Absent;
+  stss = None;
 }
 
 module _ (all : List Span) (start : List Track) (n : ℕ) (b : Bool) (f : List ℕ) (rs : List Run) (ns : List ℕ) (ts : List tables.Track) (hs : List Head) (ls : List tabled.Site) (gs : List ran.Lane) (k p e : ℕ) (m : List Span)
     (w : Walking all start n b f rs ns ts hs ls gs k p e m) (r : Turn) (i : TurnIs hs k n p e r) where
-  pub stops : (x : Finding) → r ≡ Stop x → Found x ≡ asked (sweep_from all all start)
+  pub stops : (x : Finding) → r ≡ Stop x → Some x ≡ asked (sweep_from all all start)
   stops x q = at-stop all start n hs (lanes_in b f rs ns ts ls gs) k p e m w.sweeping r i x q
 
   pub strays : (h : Head) → r ≡ Stray h → stray_of all h ≡ sweep_from all all start

@@ -1,4 +1,4 @@
-#![tactic(auto)]
+#![tactic(auto, unfolding(numbers::specs::Field::when, numbers::specs::Field::field))]
 // The sweep of an audit (F4, F5, F6) over up to four tracks, each a lane over its tables or over its runs: the position
 // goes through the payloads of the file's mdats, and each byte that it comes to must be the first of one sample.
 ghost use Rattle.std.specs.Prelude.{◌≡◌, true, false, ◌+◌, ◌≤◌, ◌<◌, min, take};
@@ -15,7 +15,7 @@ ghost use Rattle.sweeps.specs.Heads.{claimed, stray_of, left_in, see_at, look_at
 use lanes::site;
 use lanes::site::{Site, Stood};
 use payloads::Payload;
-use verdicts::{Asked, Finding};
+use verdicts::Finding;
 
 // The next sample of a track, where it has one: then live.
 #[derive(Clone, Copy)]
@@ -37,6 +37,7 @@ pub(crate) struct Seen {
 }
 
 // Track t's next sample, at o, beside those that were seen.
+#[tactic(auto, unfolding(numbers::specs::Field::when, numbers::specs::Field::field, crate::specs::Heads::see_at))]
 fn see(l: Seen, t: usize, p: u64, o: u64) -> Seen
     ensures { result ≡ see_at l t p o }
 {
@@ -91,6 +92,7 @@ fn look(p: u64, heads: [Head; 4]) -> Seen
 }
 
 // The bound b, or the start of track i's next sample where that is nearer; t's own is no bound.
+#[tactic(auto, unfolding(numbers::specs::Field::when, numbers::specs::Field::field, crate::specs::Heads::nearer_at))]
 fn nearer(b: u64, i: usize, t: usize, h: Head) -> u64
     ensures { result ≡ nearer_at b i t h }
 {
@@ -127,7 +129,7 @@ fn claim(number: u32, h: Head) -> Finding
     ensures { result ≡ claimed number h }
 {
     Finding {
-        number: number,
+        number,
         track: h.track,
         sample: h.number,
         position: h.offset,
@@ -195,7 +197,7 @@ fn decide(heads: [Head; 4], filled: usize, count: usize, p: u64, end: u64) -> Tu
             track: first,
             to: p + size,
             until: until(heads, first, end),
-            filled: filled,
+            filled,
         };
     }
     Turn::Stop(claim(4, h))
@@ -212,13 +214,13 @@ fn stray(
     parents: &[usize; 4096],
     placed: &[usize; 4096],
     h: Head,
-) -> Asked
+) -> Option<Finding>
     ensures { result ≡ asked (stray_of (payloads_from file.now (boxes starts.now sizes.now kinds.now parents.now placed.now) n 0) h) }
 {
     if payloads::holds(file, n, h.offset, starts, sizes, kinds, parents, placed) {
-        return Asked::Found(claim(5, h));
+        return Some(claim(5, h));
     }
-    Asked::Found(claim(4, h))
+    Some(claim(4, h))
 }
 
 // After the last payload: the first track with a sample left.
@@ -231,7 +233,7 @@ fn left_over(
     parents: &[usize; 4096],
     placed: &[usize; 4096],
     heads: [Head; 4],
-) -> Asked
+) -> Option<Finding>
     ensures { result ≡ asked (left_in (payloads_from file.now (boxes starts.now sizes.now kinds.now parents.now placed.now) n 0) heads) }
 {
     let mut i: usize = 0;
@@ -242,7 +244,7 @@ fn left_over(
         }
         i += 1;
     }
-    Asked::Passes
+    None
 }
 
 // The head of a track that has no sample left.
@@ -251,7 +253,7 @@ fn dead(track: u32) -> Head
 {
     Head {
         live: false,
-        track: track,
+        track,
         number: 0,
         offset: 0,
         size: 0,
@@ -278,10 +280,10 @@ fn met(track: u32, number: u32, offset: u64, size: u32) -> Head
 {
     Head {
         live: true,
-        track: track,
-        number: number,
-        offset: offset,
-        size: size,
+        track,
+        number,
+        offset,
+        size,
     }
 }
 
@@ -294,7 +296,7 @@ struct Tabled {
 }
 
 // From p on, as long as the lane's samples follow one another and no other track can have one: below `until`. A sample
-// that does not fit ends its track: it is refused before any sweep (9).
+// that does not fit ends its track: it is refused before any sweep.
 fn by_tables(
     file: &[u8],
     number: u32,
@@ -313,14 +315,14 @@ fn by_tables(
         match site::next(file, t, rest) {
             Stood::End => {
                 return Tabled {
-                    at: at,
+                    at,
                     head: dead(number),
                     lane: rest,
                 };
             }
             Stood::Over => {
                 return Tabled {
-                    at: at,
+                    at,
                     head: dead(number),
                     lane: rest,
                 };
@@ -337,7 +339,7 @@ fn by_tables(
                     rest = after;
                 } else {
                     return Tabled {
-                        at: at,
+                        at,
                         head: met(number, sample, offset, size),
                         lane: after,
                     };
@@ -374,14 +376,14 @@ fn by_runs(
         match fragments::next(file, table, rows, number, rest) {
             fragments::Taken::End => {
                 return Ran {
-                    at: at,
+                    at,
                     head: dead(number),
                     lane: rest,
                 };
             }
             fragments::Taken::Over => {
                 return Ran {
-                    at: at,
+                    at,
                     head: dead(number),
                     lane: rest,
                 };
@@ -396,7 +398,7 @@ fn by_runs(
                     rest = after;
                 } else {
                     return Ran {
-                        at: at,
+                        at,
                         head: met(number, sample.number, sample.offset, sample.size),
                         lane: after,
                     };
@@ -428,7 +430,7 @@ pub fn sweep(
     table: &[u64],
     rows: usize,
     fragmented: bool,
-) -> Asked
+) -> Option<Finding>
     ensures { result ≡ asked (sweepOf (payloads_from file.now (boxes starts.now sizes.now kinds.now parents.now placed.now) n 0) (tracks_in fragmented file.now (rows_of table.now rows) (take count numbers) (take count tracks))) }
 {
     let most = at_most_four(count);
@@ -445,7 +447,7 @@ pub fn sweep(
     loop {
         match decide(heads, filled, most, p, end) {
             Turn::Stop(finding) => {
-                return Asked::Found(finding);
+                return Some(finding);
             }
             Turn::Stray(astray) => {
                 return stray(file, n, starts, sizes, kinds, parents, placed, astray);

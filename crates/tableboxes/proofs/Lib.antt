@@ -1,3 +1,2 @@
-mod Laws
 mod Vectors
 mod Unique

@@ -1,5 +1,6 @@
 -- Which samples are sync: all where there is no stss; else those whose number is in it, as far as the list rises. A list
 -- that rises to its end, as every stss that is read does (A21), has just its members. Assumes nothing.
+use Rattle.std.specs.Prelude.{Option, Some, None}
 use Prim.Native.Nat.{ℕ, zero, suc, ◌+◌, ◌≤◌, ◌<◌}
 use mathlib.Core.Path.{◌≡◌, refl, sym, ap, ◌∙◌}
 use mathlib.Core.List.{List, [], ◌∷◌}
@@ -14,8 +15,6 @@ use Rattle.tables.specs.Samples.{place, rest, flag_of, past_of, risen, sync_at, 
 use Rattle.samples.specs.declared.Sample.{Sample}
 use Rattle.tables.specs.declared.Table.{Table}
 use Rattle.tables.specs.declared.Track.{Track}
-use Rattle.tables.specs.declared.Optional.{Optional}
-use Rattle.tables.specs.declared.Optional.TheVariants.{Absent, At}
 
 -- it holds of every sample
 abbrev pub All : (Sample → Type 0) → List Sample → Type 0
@@ -99,8 +98,8 @@ sync-is f t =
     (place (values_of (groups f t.stsc t.stco.count)) (chunks f t.stco) (sizes f t.stsz))
     (shifts f t.ctts) (syncs f t.stss) (λ x h. begins (syncs f t.stss) x)
 
-pub no-stss-all-sync : (f : List ℕ) (t : Track) → t.stss ≡ Absent → All (λ s. s.sync ≡ true) (samples_of f t)
-no-stss-all-sync f t e = all_map _ _ (samples_of f t) (λ s p. p ∙ ap (λ (o : Optional). sync_at (syncs f o) s.number) e) (sync-is f t)
+pub no-stss-all-sync : (f : List ℕ) (t : Track) → t.stss ≡ None → All (λ s. s.sync ≡ true) (samples_of f t)
+no-stss-all-sync f t e = all_map _ _ (samples_of f t) (λ s p. p ∙ ap (λ (o : Option Table). sync_at (syncs f o) s.number) e) (sync-is f t)
 
 abbrev pub member : ℕ → List ℕ → Bool
 member n [] = false
@@ -118,7 +117,7 @@ risen-member x (y ∷ l) n r =
     ap (λ (b : Bool). when b (when (eqb y n) true (risen y l n)) false) (lt-ltb x y r.0)
     ∙ ap (λ (b : Bool). when (eqb y n) true b) (risen-member y l n r.1)
 
-pub sync-is-member : (f : List ℕ) (t : Track) (b : Table) → t.stss ≡ At b → Rises 0 (numbers f b) → All (λ s. s.sync ≡ member s.number (numbers f b)) (samples_of f t)
+pub sync-is-member : (f : List ℕ) (t : Track) (b : Table) → t.stss ≡ Some b → Rises 0 (numbers f b) → All (λ s. s.sync ≡ member s.number (numbers f b)) (samples_of f t)
 sync-is-member f t b e r =
     all_map _ _ (samples_of f t)
-    (λ s p. p ∙ ap (λ (o : Optional). sync_at (syncs f o) s.number) e ∙ risen-member 0 (numbers f b) s.number r) (sync-is f t)
+    (λ s p. p ∙ ap (λ (o : Option Table). sync_at (syncs f o) s.number) e ∙ risen-member 0 (numbers f b) s.number r) (sync-is f t)

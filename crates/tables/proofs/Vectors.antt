@@ -1,4 +1,5 @@
 -- Worked examples of the definitions, computed on bytes: cases 1 and 2 of document 01. Assumes nothing.
+use Rattle.std.specs.Prelude.{Some, None}
 use Prim.Native.Nat.{ℕ}
 use mathlib.Core.Path.{◌≡◌, refl}
 use mathlib.Core.List.{List, [], ◌∷◌, ◌++◌}
@@ -12,7 +13,6 @@ use Rattle.samples.specs.declared.Sample.{Sample}
 use Rattle.tables.specs.Tables.{pair_at, group_at, offset_at, size_at, number_at}
 use Rattle.tables.specs.Samples.{samples_of}
 use Rattle.tables.specs.Rows.{pair_rows, group_rows, end_at, row_by, row_at}
-use Rattle.tables.specs.declared.Optional.TheVariants.{Absent, At}
 use Rattle.tables.specs.declared.Track.{Track}
 
 -- stts at 0, stsc at 16, stsz at 40, stco at 64, stss at 80, ctts at 88, an entry of co64 at 104
@@ -29,33 +29,33 @@ file =
 abbrev pub track : Track
 track = record {
   stts = record { at = 0; count = 2 };
-  ctts = At (record { at = 88; count = 2 });
+  ctts = Some (record { at = 88; count = 2 });
   stsc = record { at = 16; count = 2 };
   stsz = record { at = 40; count = 6; common = 0 };
   stco = record { at = 64; count = 4; wide = false };
-  stss = At (record { at = 80; count = 2 });
+  stss = Some (record { at = 80; count = 2 });
 }
 
 -- every sample has the size 5, and there are three of them; no ctts, no stss
 abbrev pub common : Track
 common = record {
   stts = record { at = 0; count = 2 };
-  ctts = Absent;
+  ctts = None;
   stsc = record { at = 16; count = 2 };
   stsz = record { at = 0; count = 3; common = 5 };
   stco = record { at = 64; count = 4; wide = false };
-  stss = Absent;
+  stss = None;
 }
 
 -- one chunk, 16 bytes before 2^64, with samples of 10 and 20 bytes
 abbrev pub high : Track
 high = record {
   stts = record { at = 0; count = 2 };
-  ctts = Absent;
+  ctts = None;
   stsc = record { at = 16; count = 1 };
   stsz = record { at = 40; count = 2; common = 0 };
   stco = record { at = 104; count = 1; wide = true };
-  stss = Absent;
+  stss = None;
 }
 
 abbrev pub times : List Sample → List ℕ

@@ -1,11 +1,9 @@
 -- The tables of a track as lists, as they lie in the file's bytes (ISO/IEC 14496-12: 8.6.1.2 stts, 8.6.1.3 ctts, 8.6.2
 -- stss, 8.7.3 stsz, 8.7.4 stsc, 8.7.5 stco and co64). A track says where each table's entries begin and how many there
 -- are; a number that the file does not hold whole is 0. There is no cursor here. Assumes nothing.
-use Rattle.std.specs.Prelude.{ℕ, zero, suc, ◌+◌, ◌-◌, ◌*◌, List, [], ◌∷◌, ◌++◌, replicate, eqb}
+use Rattle.std.specs.Prelude.{ℕ, zero, suc, ◌+◌, ◌-◌, ◌*◌, List, [], ◌∷◌, ◌++◌, replicate, eqb, Option, Some, None}
 use Rattle.numbers.specs.Field.{when, or_zero}
 use Rattle.tables.specs.declared.Table.{Table}
-use Rattle.tables.specs.declared.Optional.{Optional}
-use Rattle.tables.specs.declared.Optional.TheVariants.{Absent, At}
 use Rattle.tables.specs.declared.Sizes.{Sizes}
 use Rattle.tables.specs.declared.Chunks.{Chunks}
 use Rattle.tables.specs.declared.Row.{Row}
@@ -83,9 +81,9 @@ sizes f t = listed (size_at f t) t.count
 -- WHAT MAY BE ABSENT
 
 -- the composition offsets, as 32 bits each: none where there is no ctts
-abbrev pub shifts : List ℕ → Optional → List ℕ
-shifts f Absent = []
-shifts f (At t) = values_of (pairs f t)
+abbrev pub shifts : List ℕ → Option Table → List ℕ
+shifts f None = []
+shifts f (Some t) = values_of (pairs f t)
 
 -- the numbers of the sync samples: every one where there is no stss
 pub data Syncs : Type 0 where
@@ -98,6 +96,6 @@ number_at f at i = or_zero 4 f (at + i * 4)
 abbrev pub numbers : List ℕ → Table → List ℕ
 numbers f t = listed (number_at f t.at) t.count
 
-abbrev pub syncs : List ℕ → Optional → Syncs
-syncs f Absent = every
-syncs f (At t) = those (numbers f t)
+abbrev pub syncs : List ℕ → Option Table → Syncs
+syncs f None = every
+syncs f (Some t) = those (numbers f t)

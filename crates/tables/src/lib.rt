@@ -1,4 +1,4 @@
-#![tactic(auto)]
+#![tactic(auto, unfolding(numbers::specs::Field::when, numbers::specs::Field::field))]
 // The tables of a track as they lie in the file: a row, a size, a chunk's place by its number. Nothing is refused here:
 // what the file does not hold is 0.
 ghost use Rattle.std.specs.Prelude.{◌≡◌};
@@ -10,13 +10,6 @@ ghost use Rattle.tables.specs.Rows.{pair_rows, group_rows, end_at, row_at};
 pub struct Table {
     pub at: usize,
     pub count: u32,
-}
-
-// A table that may be absent: no ctts, or no stss.
-#[derive(Clone, Copy)]
-pub enum Optional {
-    Absent,
-    At(Table),
 }
 
 // The table stsz. common is 0 where the sizes are listed.
@@ -39,11 +32,11 @@ pub struct Chunks {
 #[derive(Clone, Copy)]
 pub struct Track {
     pub stts: Table,
-    pub ctts: Optional,
+    pub ctts: Option<Table>,
     pub stsc: Table,
     pub stsz: Sizes,
     pub stco: Chunks,
-    pub stss: Optional,
+    pub stss: Option<Table>,
 }
 
 // A table of runs: (count, value), or stsc's (first chunk, samples per chunk, description) for that many chunks.
@@ -82,7 +75,7 @@ pub fn groups(t: Table, chunks: u32) -> Rows
         at: t.at,
         count: t.count,
         grouped: true,
-        chunks: chunks,
+        chunks,
     }
 }
 
@@ -119,10 +112,7 @@ pub fn entry(file: &[u8], rows: Rows, i: u32) -> Row
     let past = (i as usize) * 8;
     let count = words::four(file, rows.at, past) as u64;
     let value = words::four(file, rows.at, past + 4);
-    Row {
-        count: count,
-        value: value,
-    }
+    Row { count, value }
 }
 
 // The size of sample i, counted from 0.

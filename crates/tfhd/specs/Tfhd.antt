@@ -1,14 +1,13 @@
 -- The track fragment header (ISO/IEC 14496-12, 8.8.7). A field whose flag is not set is 0; a track number of 0 is 8.
 -- Assumes nothing.
-use Rattle.std.specs.Prelude.{ℕ, List, [], ◌∷◌, get_or}
+use Rattle.std.specs.Prelude.{ℕ, List, [], ◌∷◌, get_or, Result}
 use Rattle.put.specs.Put.{Wrote}
 use Rattle.layout.specs.Read.{read_of, answer}
 use Rattle.layout.specs.Write.{write_of, padded, slotted}
 use Rattle.layout.specs.declared.Field.{Field}
 use Rattle.layout.specs.declared.Field.TheVariants.{Optional, Least, Version, Flags}
 use Rattle.tfhd.specs.declared.Tfhd.{Tfhd}
-use Rattle.tfhd.specs.declared.Found.{Found}
-use Rattle.tfhd.specs.declared.Found.TheVariants.{Is, Refused}
+use Rattle.numbers.specs.declared.Refusal.{Refusal}
 
 abbrev pub kind : ℕ
 kind = 0x74666864
@@ -23,8 +22,8 @@ from v = record { version = get_or v 0 0; flags = get_or v 1 0; track_id = get_o
 abbrev pub to : Tfhd → List ℕ
 to m = slotted (m.version ∷ m.flags ∷ m.track_id ∷ m.base_data_offset ∷ m.sample_description_index ∷ m.default_sample_duration ∷ m.default_sample_size ∷ m.default_sample_flags ∷ [])
 
-abbrev pub tfhd_of : List ℕ → Found
-tfhd_of part = answer Is Refused from (read_of kind fields part)
+abbrev pub tfhd_of : List ℕ → Result Tfhd Refusal
+tfhd_of part = answer from (read_of kind fields part)
 
 abbrev pub tfhd_in : Tfhd → List ℕ → Wrote
 tfhd_in m out = write_of kind fields (to m) [] out

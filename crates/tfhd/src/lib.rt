@@ -1,4 +1,4 @@
-#![tactic(auto)]
+#![tactic(auto, unfolding(numbers::specs::Field::when, numbers::specs::Field::field))]
 // The track fragment header (ISO/IEC 14496-12, 8.8.7). A field whose flag is not set is 0; a track number of 0 is 8.
 ghost use Rattle.std.specs.Prelude.{◌≡◌};
 ghost use Rattle.put.specs.Put.{wrote};
@@ -6,7 +6,6 @@ ghost use Rattle.tfhd.specs.Tfhd.{tfhd_of, tfhd_in};
 
 use layout::Field;
 use numbers::Refusal;
-use put::Put;
 
 #[derive(Clone, Copy)]
 pub struct Tfhd {
@@ -18,12 +17,6 @@ pub struct Tfhd {
     pub default_sample_duration: u32,
     pub default_sample_size: u32,
     pub default_sample_flags: u32,
-}
-
-#[derive(Clone, Copy)]
-pub enum Found {
-    Is(Tfhd),
-    Refused(Refusal),
 }
 
 pub const KIND: u32 = 0x74666864;
@@ -39,18 +32,12 @@ pub const ROW: [Field; 8] = [
     Field::Optional(4, 32),
 ];
 
-pub fn read(part: &[u8]) -> Found
+pub fn read(part: &[u8]) -> Result<Tfhd, Refusal>
     ensures { result ≡ tfhd_of part.now }
 {
-    let got = short::read::by(part, KIND, ROW);
-    if got.number != 0 {
-        return Found::Refused(Refusal {
-            number: got.number,
-            detail: got.place,
-        });
-    }
+    let got = short::read::by(part, KIND, ROW)?;
     let v = got.values;
-    Found::Is(Tfhd {
+    Ok(Tfhd {
         version: v[0] as u8,
         flags: v[1] as u32,
         track_id: v[2] as u32,
@@ -62,7 +49,7 @@ pub fn read(part: &[u8]) -> Found
     })
 }
 
-pub fn write(tfhd: Tfhd, out: &mut [u8]) -> Put
+pub fn write(tfhd: Tfhd, out: &mut [u8]) -> Result<usize, Refusal>
     ensures { wrote result out.new ≡ tfhd_in tfhd out.old }
 {
     let v = [

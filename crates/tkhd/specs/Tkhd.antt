@@ -1,14 +1,13 @@
 -- The track header (ISO/IEC 14496-12, 8.3.2). 92 bytes in version 0 and 104 in version 1; a track number of 0 is 8.
 -- Assumes nothing.
-use Rattle.std.specs.Prelude.{ℕ, List, [], ◌∷◌, get_or}
+use Rattle.std.specs.Prelude.{ℕ, List, [], ◌∷◌, get_or, Result}
 use Rattle.put.specs.Put.{Wrote}
 use Rattle.layout.specs.Read.{read_of, answer}
 use Rattle.layout.specs.Write.{write_of, padded, slotted}
 use Rattle.layout.specs.declared.Field.{Field}
 use Rattle.layout.specs.declared.Field.TheVariants.{Number, Reserved, Wide, Least, Version, Flags}
 use Rattle.tkhd.specs.declared.Tkhd.{Tkhd}
-use Rattle.tkhd.specs.declared.Found.{Found}
-use Rattle.tkhd.specs.declared.Found.TheVariants.{Is, Refused}
+use Rattle.numbers.specs.declared.Refusal.{Refusal}
 
 abbrev pub kind : ℕ
 kind = 0x746b6864
@@ -23,8 +22,8 @@ from v = record { version = get_or v 0 0; flags = get_or v 1 0; creation_time = 
 abbrev pub to : Tkhd → List ℕ
 to m = slotted (m.version ∷ m.flags ∷ m.creation_time ∷ m.modification_time ∷ m.track_id ∷ m.duration ∷ m.layer ∷ m.alternate_group ∷ m.volume ∷ m.matrix_a ∷ m.matrix_b ∷ m.matrix_u ∷ m.matrix_c ∷ m.matrix_d ∷ m.matrix_v ∷ m.matrix_x ∷ m.matrix_y ∷ m.matrix_w ∷ m.width ∷ m.height ∷ [])
 
-abbrev pub tkhd_of : List ℕ → Found
-tkhd_of part = answer Is Refused from (read_of kind fields part)
+abbrev pub tkhd_of : List ℕ → Result Tkhd Refusal
+tkhd_of part = answer from (read_of kind fields part)
 
 abbrev pub tkhd_in : Tkhd → List ℕ → Wrote
 tkhd_in m out = write_of kind fields (to m) [] out

@@ -1,4 +1,4 @@
-#![tactic(auto)]
+#![tactic(auto, unfolding(numbers::specs::Field::when, numbers::specs::Field::field))]
 // The track header (ISO/IEC 14496-12, 8.3.2). 92 bytes in version 0 and 104 in version 1; a track number of 0 is 8.
 ghost use Rattle.std.specs.Prelude.{◌≡◌};
 ghost use Rattle.put.specs.Put.{wrote};
@@ -6,7 +6,6 @@ ghost use Rattle.tkhd.specs.Tkhd.{tkhd_of, tkhd_in};
 
 use layout::Field;
 use numbers::Refusal;
-use put::Put;
 
 #[derive(Clone, Copy)]
 pub struct Tkhd {
@@ -30,12 +29,6 @@ pub struct Tkhd {
     pub matrix_w: u32,
     pub width: u32,
     pub height: u32,
-}
-
-#[derive(Clone, Copy)]
-pub enum Found {
-    Is(Tkhd),
-    Refused(Refusal),
 }
 
 pub const KIND: u32 = 0x746b6864;
@@ -67,18 +60,12 @@ pub const ROW: [Field; 24] = [
     Field::Nothing,
 ];
 
-pub fn read(part: &[u8]) -> Found
+pub fn read(part: &[u8]) -> Result<Tkhd, Refusal>
     ensures { result ≡ tkhd_of part.now }
 {
-    let got = layout::read::by(part, KIND, ROW);
-    if got.number != 0 {
-        return Found::Refused(Refusal {
-            number: got.number,
-            detail: got.place,
-        });
-    }
+    let got = layout::read::by(part, KIND, ROW)?;
     let v = got.values;
-    Found::Is(Tkhd {
+    Ok(Tkhd {
         version: v[0] as u8,
         flags: v[1] as u32,
         creation_time: v[2],
@@ -102,7 +89,7 @@ pub fn read(part: &[u8]) -> Found
     })
 }
 
-pub fn write(tkhd: Tkhd, out: &mut [u8]) -> Put
+pub fn write(tkhd: Tkhd, out: &mut [u8]) -> Result<usize, Refusal>
     ensures { wrote result out.new ≡ tkhd_in tkhd out.old }
 {
     let v = [

@@ -1,4 +1,3 @@
-mod Cases
 pub mod Example
 mod Unique
 mod Vectors

@@ -1,11 +1,11 @@
 -- Worked examples of the definitions, computed. Assumes nothing.
+use Rattle.std.specs.Prelude.{Ok, Err}
 use mathlib.Core.Path.{◌≡◌, refl}
 use mathlib.Core.List.{List, [], ◌∷◌, ◌++◌}
 use Prim.Native.Nat.{ℕ, ◌+◌, ◌*◌}
 use Rattle.numbers.specs.Number.{be, bytes}
-use Rattle.numbers.specs.Field.{refusal, field, when}
-use Rattle.numbers.specs.declared.U8.TheVariants as u8
-use Rattle.numbers.specs.declared.U32.TheVariants as u32
+use Rattle.numbers.specs.Field.{field, when}
+use Rattle.numbers.specs.declared.Refusal.TheVariants as refusal
 use Rattle.places.specs.Kinds as kinds
 use Rattle.layout.specs.Rule.{rule_of}
 use Rattle.layout.specs.Read.{one, decode}
@@ -29,76 +29,76 @@ abbrev sound : List ℕ → List ℕ
 sound info = trak (mp4a (aac info))
 
 -- AAC LC, 48,000 samples a second, two channels
-profile-lc : profile_of (sound (0x11 ∷ 0x90 ∷ [])) ≡ u8.Is 2
+profile-lc : profile_of (sound (0x11 ∷ 0x90 ∷ [])) ≡ Ok 2
 unfolding be bytes field when rule_of one decode row_of first_in nth_in within stsd_in part_of entered_of stream_of config_of length_from head_by seek_from bit_field bits_of
 profile-lc = refl
 
-frequency-48000 : frequency_of (sound (0x11 ∷ 0x90 ∷ [])) ≡ u32.Is 48000
+frequency-48000 : frequency_of (sound (0x11 ∷ 0x90 ∷ [])) ≡ Ok 48000
 unfolding be bytes field when rule_of one decode row_of first_in nth_in within stsd_in part_of entered_of stream_of config_of length_from head_by seek_from bit_field bits_of
 frequency-48000 = refl
 
-channels-2 : channels_of (sound (0x11 ∷ 0x90 ∷ [])) ≡ u8.Is 2
+channels-2 : channels_of (sound (0x11 ∷ 0x90 ∷ [])) ≡ Ok 2
 unfolding be bytes field when rule_of one decode row_of first_in nth_in within stsd_in part_of entered_of stream_of config_of length_from head_by seek_from bit_field bits_of
 channels-2 = refl
 
-bitrate-128000 : bitrate_of (sound (0x11 ∷ 0x90 ∷ [])) ≡ u32.Is 128000
+bitrate-128000 : bitrate_of (sound (0x11 ∷ 0x90 ∷ [])) ≡ Ok 128000
 unfolding be bytes field when rule_of one decode row_of first_in nth_in within stsd_in part_of entered_of stream_of config_of length_from head_by seek_from bit_field bits_of
 bitrate-128000 = refl
 
 -- a type of 0, an index of 13, a configuration of 0
-profile-0 : profile_of (sound (0x01 ∷ 0x90 ∷ [])) ≡ u8.Refused (refusal 8 0)
+profile-0 : profile_of (sound (0x01 ∷ 0x90 ∷ [])) ≡ Err (refusal.Value 0)
 unfolding be bytes field when rule_of one decode row_of first_in nth_in within stsd_in part_of entered_of stream_of config_of length_from head_by seek_from bit_field bits_of
 profile-0 = refl
 
-frequency-13 : frequency_of (sound (0x16 ∷ 0x90 ∷ [])) ≡ u32.Refused (refusal 8 0)
+frequency-13 : frequency_of (sound (0x16 ∷ 0x90 ∷ [])) ≡ Err (refusal.Value 0)
 unfolding be bytes field when rule_of one decode row_of first_in nth_in within stsd_in part_of entered_of stream_of config_of length_from head_by seek_from bit_field bits_of
 frequency-13 = refl
 
-channels-0 : channels_of (sound (0x11 ∷ 0x80 ∷ [])) ≡ u8.Refused (refusal 8 0)
+channels-0 : channels_of (sound (0x11 ∷ 0x80 ∷ [])) ≡ Err (refusal.Value 0)
 unfolding be bytes field when rule_of one decode row_of first_in nth_in within stsd_in part_of entered_of stream_of config_of length_from head_by seek_from bit_field bits_of
 channels-0 = refl
 
 -- an index of 15: the frequency itself is told
-frequency-told : frequency_of (sound (bytes 5 ((47 * 0x100_0000 + 12345) * 128 + 16))) ≡ u32.Is 12345
+frequency-told : frequency_of (sound (bytes 5 ((47 * 0x100_0000 + 12345) * 128 + 16))) ≡ Ok 12345
 unfolding be bytes field when rule_of one decode row_of first_in nth_in within stsd_in part_of entered_of stream_of config_of length_from head_by seek_from bit_field bits_of
 frequency-told = refl
 
 -- no configuration; and half of one, which the reader of the esds refuses
-profile-without-info : profile_of (trak (mp4a (esds []))) ≡ u8.Refused (refusal 1 0)
+profile-without-info : profile_of (trak (mp4a (esds []))) ≡ Err (refusal.Cut 0)
 unfolding be bytes field when rule_of one decode row_of first_in nth_in within stsd_in part_of entered_of stream_of config_of length_from head_by seek_from bit_field bits_of
 profile-without-info = refl
 
-frequency-cut : frequency_of (sound (0x11 ∷ [])) ≡ u32.Refused (refusal 1 35)
+frequency-cut : frequency_of (sound (0x11 ∷ [])) ≡ Err (refusal.Cut 35)
 unfolding be bytes field when rule_of one decode row_of first_in nth_in within stsd_in part_of entered_of stream_of config_of length_from head_by seek_from bit_field bits_of
 frequency-cut = refl
 
 -- the average is not told
-bitrate-not-told : bitrate_of (trak (mp4a (esds []))) ≡ u32.Is 0
+bitrate-not-told : bitrate_of (trak (mp4a (esds []))) ≡ Ok 0
 unfolding be bytes field when rule_of one decode row_of first_in nth_in within stsd_in part_of entered_of stream_of config_of length_from head_by seek_from bit_field bits_of
 bitrate-not-told = refl
 
 -- what is missing: the esds, the mp4a where the entry is an avc1 or there is none, the stsd
-channels-without-esds : channels_of (trak (mp4a [])) ≡ u8.Refused (refusal 5 0x65736473)
+channels-without-esds : channels_of (trak (mp4a [])) ≡ Err (refusal.Missing 0x65736473)
 unfolding be bytes field when rule_of one decode row_of first_in nth_in within stsd_in part_of entered_of stream_of config_of length_from head_by seek_from bit_field bits_of
 channels-without-esds = refl
 
-profile-of-video : profile_of (trak (of kinds.avc1 [])) ≡ u8.Refused (refusal 5 0x6d703461)
+profile-of-video : profile_of (trak (of kinds.avc1 [])) ≡ Err (refusal.Missing 0x6d703461)
 unfolding be bytes field when rule_of one decode row_of first_in nth_in within stsd_in part_of entered_of stream_of config_of length_from head_by seek_from bit_field bits_of
 profile-of-video = refl
 
-bitrate-without-entry : bitrate_of (trak []) ≡ u32.Refused (refusal 5 0x6d703461)
+bitrate-without-entry : bitrate_of (trak []) ≡ Err (refusal.Missing 0x6d703461)
 unfolding be bytes field when rule_of one decode row_of first_in nth_in within stsd_in part_of entered_of stream_of config_of length_from head_by seek_from bit_field bits_of
 bitrate-without-entry = refl
 
-frequency-without-stsd : frequency_of (of kinds.trak (of kinds.mdia (of kinds.minf (of kinds.stbl [])))) ≡ u32.Refused (refusal 5 0x73747364)
+frequency-without-stsd : frequency_of (of kinds.trak (of kinds.mdia (of kinds.minf (of kinds.stbl [])))) ≡ Err (refusal.Missing 0x73747364)
 unfolding be bytes field when rule_of one decode row_of first_in nth_in within stsd_in part_of entered_of stream_of config_of length_from head_by seek_from bit_field bits_of
 frequency-without-stsd = refl
 
 -- what the readers of mp4a and of esds refuse
-profile-cut : profile_of (trak (of kinds.mp4a (bytes 8 1))) ≡ u8.Refused (refusal 1 16)
+profile-cut : profile_of (trak (of kinds.mp4a (bytes 8 1))) ≡ Err (refusal.Cut 16)
 unfolding be bytes field when rule_of one decode row_of first_in nth_in within stsd_in part_of entered_of stream_of config_of length_from head_by seek_from bit_field bits_of
 profile-cut = refl
 
-bitrate-version : bitrate_of (trak (mp4a (box kinds.esds 1 0 []))) ≡ u32.Refused (refusal 7 8)
+bitrate-version : bitrate_of (trak (mp4a (box kinds.esds 1 0 []))) ≡ Err (refusal.Version 8)
 unfolding be bytes field when rule_of one decode row_of first_in nth_in within stsd_in part_of entered_of stream_of config_of length_from head_by seek_from bit_field bits_of
 bitrate-version = refl

@@ -1,3 +1,2 @@
-mod Cases
 mod Unique
 mod Vectors

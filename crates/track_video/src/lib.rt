@@ -1,17 +1,16 @@
-#![tactic(auto)]
+#![tactic(auto, unfolding(numbers::specs::Field::when, numbers::specs::Field::field))]
 // What an H.264 track tells of itself, from the bytes of its trak: its first sample entry is an avc1, whose avcC holds the
-// configuration. 5 for a box that is missing, with avc1 where the entry is another; else what the readers on the way
-// refuse, at a position that is counted from the first byte of what each reads; 8 for a profile that is not known, 11 for
-// a parameter set that is not there.
+// configuration. Missing for a box that is not there, with avc1 where the entry is another; else what the readers on the
+// way refuse, at a position that is counted from the first byte of what each reads; Value for a profile that is not known,
+// NoSample for a parameter set that is not there.
 ghost use Rattle.std.specs.Prelude.{◌≡◌};
 ghost use Rattle.track_video.specs.TrackVideo.{part_of, entered_of, config_of, profile_of, sps_of, pps_of, has_set, sps_fault, pps_fault};
 
-use numbers::{Refusal, U32};
+use numbers::Refusal;
 use places::kinds;
-use profiles::Told;
-use rows::Judged;
 
 // The avcC in the first sample entry; no bytes where there is none.
+#[tactic(auto, unfolding(numbers::specs::Field::when, numbers::specs::Field::field, crate::specs::TrackVideo::part_of))]
 fn part(trak: &[u8]) -> &[u8]
     ensures { result.now ≡ part_of trak.now }
 {
@@ -20,50 +19,36 @@ fn part(trak: &[u8]) -> &[u8]
 }
 
 // What is told of it, where the entry is an avc1.
-fn entered(trak: &[u8]) -> avcc::Found
+#[tactic(auto, unfolding(numbers::specs::Field::when, numbers::specs::Field::field, crate::specs::TrackVideo::entered_of))]
+fn entered(trak: &[u8]) -> Result<(avcc::Avcc, avcc::Places), Refusal>
     ensures { result ≡ entered_of trak.now }
 {
-    match avc1::read(trak::entry(trak)) {
-        visual::Found::Refused(q) => avcc::Found::Refused(q),
-        visual::Found::Is(_) => {
-            let found = part(trak);
-            if found.len() == 0 {
-                return avcc::Found::Refused(Refusal {
-                    number: 5,
-                    detail: kinds::AVCC as usize,
-                });
-            }
-            avcc::read(found)
-        }
+    avc1::read(trak::entry(trak))?;
+    let found = part(trak);
+    if found.len() == 0 {
+        return Err(Refusal::Missing(kinds::AVCC));
     }
+    avcc::read(found)
 }
 
 // The same for any entry.
-fn config(trak: &[u8]) -> avcc::Found
+#[tactic(auto, unfolding(numbers::specs::Field::when, numbers::specs::Field::field, crate::specs::TrackVideo::config_of))]
+fn config(trak: &[u8]) -> Result<(avcc::Avcc, avcc::Places), Refusal>
     ensures { result ≡ config_of trak.now }
 {
-    match trak_boxes::entry_kind(trak) {
-        U32::Refused(q) => avcc::Found::Refused(q),
-        U32::Is(letters) => {
-            if letters == kinds::AVC1 {
-                return entered(trak);
-            }
-            avcc::Found::Refused(Refusal {
-                number: 5,
-                detail: kinds::AVC1 as usize,
-            })
-        }
+    let letters = trak_boxes::entry_kind(trak)?;
+    if letters == kinds::AVC1 {
+        return entered(trak);
     }
+    Err(Refusal::Missing(kinds::AVC1))
 }
 
 // The profile of the stream.
-pub fn profile(trak: &[u8]) -> Told
+pub fn profile(trak: &[u8]) -> Result<profiles::Profile, Refusal>
     ensures { result ≡ profile_of trak.now }
 {
-    match config(trak) {
-        avcc::Found::Refused(q) => Told::Refused(q),
-        avcc::Found::Is(m, _) => profiles::profile_of(m.profile, m.compatibility),
-    }
+    let (m, _) = config(trak)?;
+    profiles::profile_of(m.profile, m.compatibility)
 }
 
 // The i-th sequence parameter set, counted from 0, as the part of the trak where it lies; no bytes where there is none,
@@ -84,34 +69,27 @@ pub fn pps(trak: &[u8], i: u8) -> &[u8]
 }
 
 // Whether there is an i-th of so many sets.
-fn has_set(i: u8, count: u8) -> Judged
+fn has_set(i: u8, count: u8) -> Result<(), Refusal>
     ensures { result ≡ has_set i count }
 {
     if i < count {
-        return Judged::Fine;
+        return Ok(());
     }
-    Judged::Wrong(Refusal {
-        number: 11,
-        detail: i as usize,
-    })
+    Err(Refusal::NoSample(i as usize))
 }
 
 // Whether there is an i-th sequence parameter set, or why there is none.
-pub fn sps_fault(trak: &[u8], i: u8) -> Judged
+pub fn sps_fault(trak: &[u8], i: u8) -> Result<(), Refusal>
     ensures { result ≡ sps_fault i trak.now }
 {
-    match config(trak) {
-        avcc::Found::Refused(q) => Judged::Wrong(q),
-        avcc::Found::Is(m, _) => has_set(i, m.sps),
-    }
+    let (m, _) = config(trak)?;
+    has_set(i, m.sps)
 }
 
 // Whether there is an i-th picture parameter set, or why there is none.
-pub fn pps_fault(trak: &[u8], i: u8) -> Judged
+pub fn pps_fault(trak: &[u8], i: u8) -> Result<(), Refusal>
     ensures { result ≡ pps_fault i trak.now }
 {
-    match config(trak) {
-        avcc::Found::Refused(q) => Judged::Wrong(q),
-        avcc::Found::Is(m, _) => has_set(i, m.pps),
-    }
+    let (m, _) = config(trak)?;
+    has_set(i, m.pps)
 }

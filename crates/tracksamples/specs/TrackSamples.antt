@@ -1,33 +1,28 @@
 -- The samples of a track, by its tables or, in a fragmented file, by its runs (ISO/IEC 14496-12, 8.6 to 8.8): one of them
 -- as a record, how many there are, and the bytes of all. Assumes nothing.
-use Rattle.std.specs.Prelude.{ℕ, zero, suc, ◌^◌, List, [], ◌∷◌, Bool, length, drop, leb, ltb}
-use Rattle.numbers.specs.Field.{refusal, when}
-use Rattle.numbers.specs.declared.U32.{U32}
-use Rattle.numbers.specs.declared.U32.TheVariants as u32
-use Rattle.numbers.specs.declared.U64.{U64}
-use Rattle.numbers.specs.declared.U64.TheVariants as u64
+use Rattle.std.specs.Prelude.{ℕ, zero, suc, ◌^◌, List, [], ◌∷◌, Bool, length, drop, leb, ltb, Result, Option, Ok, Err, Some, None}
+use Rattle.numbers.specs.Field.{when}
+use Rattle.numbers.specs.declared.Refusal.TheVariants as refusal
 use Rattle.samples.specs.Lists.{bytes_of}
 use Rattle.samples.specs.Records.{Output, output, record-length, put_of, list_of}
 use Rattle.samples.specs.declared.Sample.{Sample}
 use Rattle.samples.specs.declared.Located.{Located}
-use Rattle.samples.specs.declared.Listed.TheVariants.{Done, Refused}
 use Rattle.runs.specs.declared.Run.{Run}
-use Rattle.runlookup.specs.declared.Tally.{Tally}
-use Rattle.runlookup.specs.declared.Tally.TheVariants as tally
 use Rattle.movie.specs.Movie.{samples_by}
 use Rattle.tracksamples.specs.declared.Source.{Source}
+use Rattle.numbers.specs.declared.Refusal.{Refusal}
 
 abbrev pub samples_from : List ℕ → Source → List Run → List Sample
 samples_from f s rs = samples_by s.fragmented f s.tables rs s.number
 
 -- the first of the samples from number k on as a list of its own: 11 with that number where there is none
 abbrev pub alone : ℕ → List Sample → List ℕ → Output
-alone k [] o = output (Refused (refusal 11 k)) o
+alone k [] o = output (Err (refusal.NoSample k)) o
 alone k (s ∷ l) o = list_of (s ∷ []) o
 
 -- the sample of that number, counted from 1 (A14)
 unfoldable pub one_of : List Sample → ℕ → List ℕ → Output
-one_of l zero o = output (Refused (refusal 11 0)) o
+one_of l zero o = output (Err (refusal.NoSample 0)) o
 one_of l (suc n) o = alone (suc n) (drop n l) o
 
 -- how many there are, below the first of these, and the bytes of all, below the second; else 9 (A13)
@@ -37,11 +32,11 @@ count_bound = 2 ^ 32
 abbrev pub total_bound : ℕ
 total_bound = 2 ^ 64
 
-unfoldable pub count_of : List Sample → U32
-count_of l = when (ltb (length l) count_bound) (u32.Is (length l)) (u32.Refused (refusal 9 0))
+unfoldable pub count_of : List Sample → Result ℕ Refusal
+count_of l = when (ltb (length l) count_bound) (Ok (length l)) (Err refusal.Overflow)
 
-unfoldable pub total_of : List Sample → U64
-total_of l = when (ltb (bytes_of l) total_bound) (u64.Is (bytes_of l)) (u64.Refused (refusal 9 0))
+unfoldable pub total_of : List Sample → Result ℕ Refusal
+total_of l = when (ltb (bytes_of l) total_bound) (Ok (bytes_of l)) (Err refusal.Overflow)
 
 -- INSIDE
 
@@ -59,13 +54,13 @@ sample_by n p b = record {
 
 -- a sample that fits as the first record
 abbrev pub recorded : List ℕ → Sample → Output
-recorded o s = when (leb record-length (length o)) (output (Done 1) (put_of o 0 s)) (output (Refused (refusal 12 1)) o)
+recorded o s = when (leb record-length (length o)) (output (Ok 1) (put_of o 0 s)) (output (Err (refusal.TooSmall 1)) o)
 
 -- what is told of a count of runs, in 32 bits and in 64
-abbrev pub narrow_of : Tally → U32
-narrow_of (tally.Is n) = when (ltb n count_bound) (u32.Is n) (u32.Refused (refusal 9 0))
-narrow_of tally.Over = u32.Refused (refusal 9 0)
+abbrev pub narrow_of : Option ℕ → Result ℕ Refusal
+narrow_of (Some n) = when (ltb n count_bound) (Ok n) (Err refusal.Overflow)
+narrow_of None = Err refusal.Overflow
 
-abbrev pub whole_of : Tally → U64
-whole_of (tally.Is n) = u64.Is n
-whole_of tally.Over = u64.Refused (refusal 9 0)
+abbrev pub whole_of : Option ℕ → Result ℕ Refusal
+whole_of (Some n) = Ok n
+whole_of None = Err refusal.Overflow

@@ -1,11 +1,13 @@
 -- Worked examples of the definitions, computed. Assumes nothing.
+use Rattle.std.specs.Prelude.{Result, Ok, Err}
 use Prim.Native.Nat.{ℕ}
 use mathlib.Core.Path.{◌≡◌, refl}
 use mathlib.Core.List.{List, [], ◌∷◌, ◌++◌}
 use mathlib.Core.Bool.{Bool, true, false}
 use lib.ListN.{replicate}
 use Rattle.numbers.specs.Number.{be, bytes}
-use Rattle.numbers.specs.Field.{refusal, field, when}
+use Rattle.numbers.specs.Field.{field, when}
+use Rattle.numbers.specs.declared.Refusal.TheVariants as refusal
 use Rattle.signed.specs.Signed.{signed}
 use Rattle.layout.specs.Rule.{rule_of}
 use Rattle.layout.specs.Read.{one, decode}
@@ -18,9 +20,8 @@ use Rattle.needed.specs.First.{first}
 use Rattle.needed.specs.Needed.{trex_of}
 use Rattle.inside.specs.Inside.{next_in, child}
 use Rattle.runs.specs.declared.Run.{Run}
-use Rattle.runstarts.specs.declared.Made.{Made}
-use Rattle.runstarts.specs.declared.Made.TheVariants.{Is, Refused}
 use Rattle.trafs.specs.Trafs.{of_box, bytes_of, run_of}
+use Rattle.numbers.specs.declared.Refusal.{Refusal}
 
 -- a trex of track 7; then a traf's tfhd with these flags, of this track, its tfdt and its trun
 abbrev file : ℕ → ℕ → List ℕ
@@ -36,7 +37,7 @@ abbrev whole : Boxes
 whole = tables (trex ∷ traf ∷ tfhd ∷ tfdt ∷ trun ∷ [])
 
 -- in a moof that begins at 1000, after a traf whose data end at 5000
-abbrev of : ℕ → ℕ → Bool → Made
+abbrev of : ℕ → ℕ → Bool → Result Run Refusal
 of flags track first = run_of (file flags track) whole 5 2 1000 first 5000
 
 abbrev run : ℕ → Run
@@ -60,34 +61,34 @@ unfolding when
 its-bytes = refl
 
 -- the first traf's data offset counts from the moof, a later one's from the end of the traf before (A38)
-first-traf : of 0 7 true ≡ Is (run 1200)
+first-traf : of 0 7 true ≡ Ok (run 1200)
 unfolding be bytes field when signed rule_of one decode cut_of keys pick_key first trex_of next_in child run_of
 first-traf = refl
 
-later-traf : of 0 7 false ≡ Is (run 5200)
+later-traf : of 0 7 false ≡ Ok (run 5200)
 unfolding be bytes field when signed rule_of one decode cut_of keys pick_key first trex_of next_in child run_of
 later-traf = refl
 
 -- and from the moof where its tfhd says so
-by_flag : of 0x20000 7 false ≡ Is (run 1200)
+by_flag : of 0x20000 7 false ≡ Ok (run 1200)
 unfolding be bytes field when signed rule_of one decode cut_of keys pick_key first trex_of next_in child run_of
 by_flag = refl
 
 -- the trex of another track does not serve: 8 at the traf
-other-trex : of 0 8 true ≡ Refused (refusal 8 24)
+other-trex : of 0 8 true ≡ Err (refusal.Value 24)
 unfolding be bytes field when signed rule_of one decode cut_of keys pick_key first trex_of next_in child run_of
 other-trex = refl
 
 -- a tfdt that is missing, and a tfhd that is not read
-no-tfdt : run_of (file 0 7) (tables (trex ∷ traf ∷ tfhd ∷ trex ∷ trun ∷ [])) 5 2 1000 true 0 ≡ Refused (refusal 8 24)
+no-tfdt : run_of (file 0 7) (tables (trex ∷ traf ∷ tfhd ∷ trex ∷ trun ∷ [])) 5 2 1000 true 0 ≡ Err (refusal.Value 24)
 unfolding be bytes field when signed rule_of one decode cut_of keys pick_key first trex_of next_in child run_of
 no-tfdt = refl
 
-no-track : of 0 0 true ≡ Refused (refusal 8 24)
+no-track : of 0 0 true ≡ Err (refusal.Value 24)
 unfolding be bytes field when signed rule_of one decode cut_of keys pick_key first trex_of next_in child run_of
 no-track = refl
 
 -- a trun that is not among the recorded boxes
-unrecorded : run_of (file 0 7) whole 4 2 1000 true 0 ≡ Refused (refusal 8 24)
+unrecorded : run_of (file 0 7) whole 4 2 1000 true 0 ≡ Err (refusal.Value 24)
 unfolding be bytes field when signed rule_of one decode cut_of keys pick_key first trex_of next_in child run_of
 unrecorded = refl

@@ -1,8 +1,9 @@
 -- The run of a traf (ISO/IEC 14496-12, 8.8.6 to 8.8.8 and 8.8.12), by its boxes that are recorded in the tables. A box is
 -- named by its row and 1, as where it is a parent; 0 names none. In a file whose needed boxes are there and are read no
 -- traf lacks one: of any other tables too the answer is fixed. Assumes nothing.
-use Rattle.std.specs.Prelude.{ℕ, ◌+◌, ◌-◌, min, List, Bool, eqb, ltb}
-use Rattle.numbers.specs.Field.{refusal, when}
+use Rattle.std.specs.Prelude.{ℕ, ◌+◌, ◌-◌, min, List, Bool, eqb, ltb, Result, Ok, Err}
+use Rattle.numbers.specs.Field.{when}
+use Rattle.numbers.specs.declared.Refusal.TheVariants as refusal
 use Rattle.parts.specs.Parts.{part_of}
 use Rattle.samples.specs.Lists.{end_bound}
 use Rattle.places.specs.Kinds.{tfhd, tfdt, trun}
@@ -12,23 +13,15 @@ use Rattle.needed.specs.Needed.{trex_of}
 use Rattle.inside.specs.Inside.{child}
 use Rattle.tfhd.specs.Tfhd.{tfhd_of}
 use Rattle.tfhd.specs.declared.Tfhd.{Tfhd}
-use Rattle.tfhd.specs.declared.Found as tfhd-found
-use Rattle.tfhd.specs.declared.Found.TheVariants as tfhd-is
 use Rattle.trex.specs.Trex as trex-box
 use Rattle.trex.specs.declared.Trex.{Trex}
-use Rattle.trex.specs.declared.Found as trex-found
-use Rattle.trex.specs.declared.Found.TheVariants as trex-is
 use Rattle.tfdt.specs.Tfdt.{tfdt_of}
 use Rattle.tfdt.specs.declared.Tfdt.{Tfdt}
-use Rattle.tfdt.specs.declared.Found as tfdt-found
-use Rattle.tfdt.specs.declared.Found.TheVariants as tfdt-is
 use Rattle.trun.specs.Trun.{trun_of}
 use Rattle.trun.specs.declared.Trun.{Trun}
-use Rattle.trun.specs.declared.Found as trun-found
-use Rattle.trun.specs.declared.Found.TheVariants as trun-is
 use Rattle.runstarts.specs.Make.{base_of, make_of}
-use Rattle.runstarts.specs.declared.Made.{Made}
-use Rattle.runstarts.specs.declared.Made.TheVariants.{Refused}
+use Rattle.runs.specs.declared.Run.{Run}
+use Rattle.numbers.specs.declared.Refusal.{Refusal}
 
 -- what a column of the tables says of the box that is named p: 0 where there is none, as past the last row
 abbrev pub of_box : List ℕ → ℕ → ℕ
@@ -39,33 +32,33 @@ abbrev pub bytes_of : List ℕ → Boxes → ℕ → List ℕ
 bytes_of s t p = part_of (of_box t.starts p) (of_box t.sizes p) s
 
 -- the trex of a track, read
-abbrev pub trex_by : List ℕ → Boxes → ℕ → ℕ → trex-found.Found
+abbrev pub trex_by : List ℕ → Boxes → ℕ → ℕ → Result Trex Refusal
 trex_by s t n track = trex-box.trex_of (bytes_of s t (trex_of s t (min n box_limit) track))
 
 -- on with a box that was read, or an answer without it
-abbrev pub with_tfhd : tfhd-found.Found → Made → (Tfhd → Made) → Made
-with_tfhd (tfhd-is.Is h) without go = go h
-with_tfhd (tfhd-is.Refused q) without go = without
+abbrev pub with_tfhd : Result Tfhd Refusal → Result Run Refusal → (Tfhd → Result Run Refusal) → Result Run Refusal
+with_tfhd (Ok h) without go = go h
+with_tfhd (Err q) without go = without
 
-abbrev pub with_trex : trex-found.Found → Made → (Trex → Made) → Made
-with_trex (trex-is.Is x) without go = go x
-with_trex (trex-is.Refused q) without go = without
+abbrev pub with_trex : Result Trex Refusal → Result Run Refusal → (Trex → Result Run Refusal) → Result Run Refusal
+with_trex (Ok x) without go = go x
+with_trex (Err q) without go = without
 
-abbrev pub with_tfdt : tfdt-found.Found → Made → (Tfdt → Made) → Made
-with_tfdt (tfdt-is.Is d) without go = go d
-with_tfdt (tfdt-is.Refused q) without go = without
+abbrev pub with_tfdt : Result Tfdt Refusal → Result Run Refusal → (Tfdt → Result Run Refusal) → Result Run Refusal
+with_tfdt (Ok d) without go = go d
+with_tfdt (Err q) without go = without
 
-abbrev pub with_trun : trun-found.Found → Made → (Trun → ℕ → Made) → Made
-with_trun (trun-is.Is m place) without go = go m place
-with_trun (trun-is.Refused q) without go = without
+abbrev pub with_trun : Result (Trun × ℕ) Refusal → Result Run Refusal → (Trun → ℕ → Result Run Refusal) → Result Run Refusal
+with_trun (Ok (m, place)) without go = go m place
+with_trun (Err q) without go = without
 
--- 8 at the traf's first byte: a box that it needs is missing, or is not read
-abbrev pub lacking : Boxes → ℕ → Made
-lacking t traf = Refused (refusal 8 (of_box t.starts traf))
+-- the traf's first byte is refused: a box that it needs is missing, or is not read
+abbrev pub lacking : Boxes → ℕ → Result Run Refusal
+lacking t traf = Err (refusal.Value (of_box t.starts traf))
 
 -- the run of the traf of that name, in a moof that begins at `moof`: what it does not say itself is said by the trex of
--- its track; 9 where the entries of its trun begin past 2^64 - 1
-unfoldable pub run_of : List ℕ → Boxes → ℕ → ℕ → ℕ → Bool → ℕ → Made
+-- its track; it does not fit where the entries of its trun begin past 2^64 - 1
+unfoldable pub run_of : List ℕ → Boxes → ℕ → ℕ → ℕ → Bool → ℕ → Result Run Refusal
 run_of s t n traf moof first previous =
     with_tfhd (tfhd_of (bytes_of s t (child t n tfhd traf))) (lacking t traf)
     (λ h. with_trex (trex_by s t n h.track_id) (lacking t traf)
@@ -73,4 +66,4 @@ run_of s t n traf moof first previous =
     (λ d. with_trun (trun_of (bytes_of s t (child t n trun traf))) (lacking t traf)
     (λ m place. when (ltb (of_box t.starts (child t n trun traf) + place) end_bound)
     (make_of h x d m (of_box t.starts (child t n trun traf) + place) (base_of h moof first previous))
-    (Refused (refusal 9 0))))))
+    (Err refusal.Overflow)))))

@@ -1,4 +1,4 @@
-#![tactic(auto)]
+#![tactic(auto, unfolding(numbers::specs::Field::when, numbers::specs::Field::field))]
 // The run of a traf, by its boxes that are recorded in the tables. A box is named by its row and 1; 0 names none.
 ghost use Rattle.std.specs.Prelude.{◌≡◌};
 ghost use Rattle.places.specs.Kinds.{tfhd, tfdt};
@@ -10,7 +10,6 @@ ghost use Rattle.trafs.specs.Trafs.{of_box, bytes_of, trex_by, lacking, run_of};
 
 use numbers::Refusal;
 use places::kinds;
-use runstarts::Made;
 
 const LAST: usize = 0xffff_ffff_ffff_ffff;
 
@@ -37,7 +36,7 @@ fn defaults(
     kinds: &[usize; 4096],
     parents: &[usize; 4096],
     placed: &[usize; 4096],
-) -> trex::Found
+) -> Result<trex::Trex, Refusal>
     ensures { result ≡ trex_by s.now (boxes starts.now sizes.now kinds.now parents.now placed.now) n track }
 {
     let p = needed::moofs::trex_of(s, track as u64, n, starts, sizes, kinds, parents, placed);
@@ -54,7 +53,7 @@ fn head(
     kinds: &[usize; 4096],
     parents: &[usize; 4096],
     placed: &[usize; 4096],
-) -> tfhd::Found
+) -> Result<tfhd::Tfhd, Refusal>
     ensures { result ≡ tfhd_of (bytes_of s.now (boxes starts.now sizes.now kinds.now parents.now placed.now) (child (boxes starts.now sizes.now kinds.now parents.now placed.now) n tfhd traf)) }
 {
     let p = inside::child(kinds::TFHD, traf, n, starts, sizes, kinds, parents, placed);
@@ -71,7 +70,7 @@ fn time(
     kinds: &[usize; 4096],
     parents: &[usize; 4096],
     placed: &[usize; 4096],
-) -> tfdt::Found
+) -> Result<tfdt::Tfdt, Refusal>
     ensures { result ≡ tfdt_of (bytes_of s.now (boxes starts.now sizes.now kinds.now parents.now placed.now) (child (boxes starts.now sizes.now kinds.now parents.now placed.now) n tfdt traf)) }
 {
     let p = inside::child(kinds::TFDT, traf, n, starts, sizes, kinds, parents, placed);
@@ -86,13 +85,10 @@ fn lacking(
     kinds: &[usize; 4096],
     parents: &[usize; 4096],
     placed: &[usize; 4096],
-) -> Made
+) -> Result<runs::Run, Refusal>
     ensures { result ≡ lacking (boxes starts.now sizes.now kinds.now parents.now placed.now) traf }
 {
-    Made::Refused(Refusal {
-        number: 8,
-        detail: of_box(starts, traf),
-    })
+    Err(Refusal::Value(of_box(starts, traf)))
 }
 
 // The run of the traf of that name, in a moof that begins at `moof`: whether it is the first there, and where the data of
@@ -109,29 +105,26 @@ pub fn run(
     moof: u64,
     first: bool,
     previous: u64,
-) -> Made
+) -> Result<runs::Run, Refusal>
     ensures { result ≡ run_of s.now (boxes starts.now sizes.now kinds.now parents.now placed.now) n traf moof first previous }
 {
-    let tfhd::Found::Is(h) = head(s, n, traf, starts, sizes, kinds, parents, placed) else {
+    let Ok(h) = head(s, n, traf, starts, sizes, kinds, parents, placed) else {
         return lacking(traf, starts, sizes, kinds, parents, placed);
     };
     let track = h.track_id;
-    let trex::Found::Is(x) = defaults(s, n, track, starts, sizes, kinds, parents, placed) else {
+    let Ok(x) = defaults(s, n, track, starts, sizes, kinds, parents, placed) else {
         return lacking(traf, starts, sizes, kinds, parents, placed);
     };
-    let tfdt::Found::Is(d) = time(s, n, traf, starts, sizes, kinds, parents, placed) else {
+    let Ok(d) = time(s, n, traf, starts, sizes, kinds, parents, placed) else {
         return lacking(traf, starts, sizes, kinds, parents, placed);
     };
     let p = inside::child(kinds::TRUN, traf, n, starts, sizes, kinds, parents, placed);
     let start = of_box(starts, p);
-    let trun::Found::Is(m, place) = trun::read(parts::part(s, start, of_box(sizes, p))) else {
+    let Ok((m, place)) = trun::read(parts::part(s, start, of_box(sizes, p))) else {
         return lacking(traf, starts, sizes, kinds, parents, placed);
     };
     if LAST - start < place {
-        return Made::Refused(Refusal {
-            number: 9,
-            detail: 0,
-        });
+        return Err(Refusal::Overflow);
     }
     let base = runstarts::base(h, moof, first, previous);
     runstarts::make(h, x, d, m, start + place, base)

@@ -1,4 +1,3 @@
-pub mod Cases
 pub mod Example
 mod Unique
 mod Vectors

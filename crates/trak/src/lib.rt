@@ -1,4 +1,4 @@
-#![tactic(auto)]
+#![tactic(auto, unfolding(numbers::specs::Field::when, numbers::specs::Field::field))]
 // Where the boxes of a trak lie (ISO/IEC 14496-12, 8.3.1): each as the part of the trak from the box's header to its end;
 // no bytes where it is not there, or where a fault comes before it.
 ghost use Rattle.std.specs.Prelude.{◌≡◌};
@@ -7,6 +7,7 @@ ghost use Rattle.trak.specs.Trak.{within, mdia_of, minf_of, stsd_of, tkhd_of, md
 use places::kinds;
 
 // The first box of a type in a box of the type `parent`.
+#[tactic(auto, unfolding(numbers::specs::Field::when, numbers::specs::Field::field, crate::specs::Trak::within))]
 fn within(part: &[u8], parent: u32, kind: u32) -> &[u8]
     ensures { result.now ≡ within parent kind part.now }
 {

@@ -1,10 +1,11 @@
 -- Worked examples of the definitions, computed. Assumes nothing.
+use Rattle.std.specs.Prelude.{Ok, Err}
 use mathlib.Core.Path.{◌≡◌, refl}
 use mathlib.Core.List.{List, [], ◌++◌}
 use Prim.Native.Nat.{ℕ}
 use Rattle.numbers.specs.Number.{be, bytes}
-use Rattle.numbers.specs.Field.{refusal, field, when}
-use Rattle.numbers.specs.declared.U32.TheVariants as u32
+use Rattle.numbers.specs.Field.{field, when}
+use Rattle.numbers.specs.declared.Refusal.TheVariants as refusal
 use Rattle.places.specs.Kinds as kinds
 use Rattle.layout.specs.Rule.{rule_of}
 use Rattle.layout.specs.Read.{one, decode}
@@ -12,11 +13,6 @@ use Rattle.layout.specs.Table.{cut_of}
 use Rattle.rounds.proofs.Example.{box}
 use Rattle.children.specs.Children.{row_of, first_in, nth_in}
 use Rattle.children.proofs.Example.{of}
-use Rattle.tkhd.specs.declared.Found.TheVariants as tkhd
-use Rattle.mdhd.specs.declared.Found.TheVariants as mdhd
-use Rattle.hdlr.specs.declared.Found.TheVariants as hdlr
-use Rattle.stsz.specs.declared.Found.TheVariants as stsz
-use Rattle.stsd.specs.declared.Found.TheVariants as stsd
 use Rattle.tkhd.specs.Tkhd.{tkhd_of}
 use Rattle.trak.specs.Trak.{within}
 use Rattle.trak.proofs.Example as example
@@ -30,70 +26,70 @@ tkhd-there : tkhd_in small ≡ tkhd_of example.tkhd
 unfolding be bytes field when rule_of one decode row_of first_in within tkhd_in
 tkhd-there = refl
 
-mdhd-there : mdhd_in small ≡ mdhd.Is (record { version = 0; flags = 0; creation_time = 0; modification_time = 0; timescale = 1000; duration = 3000; language = 0x55c4 })
+mdhd-there : mdhd_in small ≡ Ok (record { version = 0; flags = 0; creation_time = 0; modification_time = 0; timescale = 1000; duration = 3000; language = 0x55c4 })
 unfolding be bytes field when rule_of one decode row_of first_in within mdhd_in
 mdhd-there = refl
 
-hdlr-there : hdlr_in small ≡ hdlr.Is (record { version = 0; flags = 0; handler_type = 0x7362746c })
+hdlr-there : hdlr_in small ≡ Ok (record { version = 0; flags = 0; handler_type = 0x7362746c })
 unfolding be bytes field when rule_of one decode row_of first_in within hdlr_in
 hdlr-there = refl
 
-stsz-there : stsz_in small ≡ stsz.Is (record { version = 0; flags = 0; sample_size = 0; count = 2 }) 20
+stsz-there : stsz_in small ≡ Ok (record { version = 0; flags = 0; sample_size = 0; count = 2 }, 20)
 unfolding be bytes field when rule_of one decode row_of first_in within stsz_in cut_of
 stsz-there = refl
 
-stsd-there : stsd_in small ≡ stsd.Is (record { version = 0; flags = 0; count = 1 })
+stsd-there : stsd_in small ≡ Ok (record { version = 0; flags = 0; count = 1 })
 unfolding be bytes field when rule_of one decode row_of first_in within stsd_in
 stsd-there = refl
 
 -- each of a trak without it, and of one without its parent
-tkhd-missing : tkhd_in (of kinds.trak []) ≡ tkhd.Refused (refusal 5 0x746b6864)
+tkhd-missing : tkhd_in (of kinds.trak []) ≡ Err (refusal.Missing 0x746b6864)
 unfolding be bytes field when rule_of one decode row_of first_in within tkhd_in
 tkhd-missing = refl
 
-mdhd-missing : mdhd_in (of kinds.trak (of kinds.mdia [])) ≡ mdhd.Refused (refusal 5 0x6d646864)
+mdhd-missing : mdhd_in (of kinds.trak (of kinds.mdia [])) ≡ Err (refusal.Missing 0x6d646864)
 unfolding be bytes field when rule_of one decode row_of first_in within mdhd_in
 mdhd-missing = refl
 
-mdhd-without-mdia : mdhd_in (of kinds.trak []) ≡ mdhd.Refused (refusal 5 0x6d646961)
+mdhd-without-mdia : mdhd_in (of kinds.trak []) ≡ Err (refusal.Missing 0x6d646961)
 unfolding be bytes field when rule_of one decode row_of first_in within mdhd_in
 mdhd-without-mdia = refl
 
-hdlr-missing : hdlr_in (of kinds.trak (of kinds.mdia example.mdhd)) ≡ hdlr.Refused (refusal 5 0x68646c72)
+hdlr-missing : hdlr_in (of kinds.trak (of kinds.mdia example.mdhd)) ≡ Err (refusal.Missing 0x68646c72)
 unfolding be bytes field when rule_of one decode row_of first_in within hdlr_in
 hdlr-missing = refl
 
-stsz-missing : stsz_in (of kinds.trak (of kinds.mdia (of kinds.minf (of kinds.stbl (example.stsd []))))) ≡ stsz.Refused (refusal 5 0x7374737a)
+stsz-missing : stsz_in (of kinds.trak (of kinds.mdia (of kinds.minf (of kinds.stbl (example.stsd []))))) ≡ Err (refusal.Missing 0x7374737a)
 unfolding be bytes field when rule_of one decode row_of first_in within stsz_in cut_of
 stsz-missing = refl
 
-stsd-without-minf : stsd_in (of kinds.trak (of kinds.mdia [])) ≡ stsd.Refused (refusal 5 0x6d696e66)
+stsd-without-minf : stsd_in (of kinds.trak (of kinds.mdia [])) ≡ Err (refusal.Missing 0x6d696e66)
 unfolding be bytes field when rule_of one decode row_of first_in within stsd_in
 stsd-without-minf = refl
 
 -- what the box's own reader refuses, at a position that is counted from the box's first byte
-mdhd-no-timescale : mdhd_in (of kinds.trak (example.tkhd ++ of kinds.mdia (box kinds.mdhd 0 0 (bytes 8 0 ++ bytes 8 0 ++ bytes 4 0)))) ≡ mdhd.Refused (refusal 8 20)
+mdhd-no-timescale : mdhd_in (of kinds.trak (example.tkhd ++ of kinds.mdia (box kinds.mdhd 0 0 (bytes 8 0 ++ bytes 8 0 ++ bytes 4 0)))) ≡ Err (refusal.Value 20)
 unfolding be bytes field when rule_of one decode row_of first_in within mdhd_in
 mdhd-no-timescale = refl
 
-stsd-version : stsd_in (of kinds.trak (of kinds.mdia (of kinds.minf (of kinds.stbl (box kinds.stsd 1 0 (bytes 4 0)))))) ≡ stsd.Refused (refusal 7 8)
+stsd-version : stsd_in (of kinds.trak (of kinds.mdia (of kinds.minf (of kinds.stbl (box kinds.stsd 1 0 (bytes 4 0)))))) ≡ Err (refusal.Version 8)
 unfolding be bytes field when rule_of one decode row_of first_in within stsd_in
 stsd-version = refl
 
 -- no trak at all
-tkhd-of-nothing : tkhd_in [] ≡ tkhd.Refused (refusal 5 0x746b6864)
+tkhd-of-nothing : tkhd_in [] ≡ Err (refusal.Missing 0x746b6864)
 unfolding be bytes field when rule_of one decode row_of first_in within tkhd_in
 tkhd-of-nothing = refl
 
 -- the first sample entry's type, of an stsd with one and with none, and of none
-kind-there : kind_in small ≡ u32.Is 0x74783367
+kind-there : kind_in small ≡ Ok 0x74783367
 unfolding be bytes field when rule_of one decode row_of first_in nth_in within stsd_in
 kind-there = refl
 
-kind-of-none : kind_in (of kinds.trak (of kinds.mdia (of kinds.minf (of kinds.stbl (box kinds.stsd 0 0 (bytes 4 0)))))) ≡ u32.Is 0
+kind-of-none : kind_in (of kinds.trak (of kinds.mdia (of kinds.minf (of kinds.stbl (box kinds.stsd 0 0 (bytes 4 0)))))) ≡ Ok 0
 unfolding be bytes field when rule_of one decode row_of first_in nth_in within stsd_in
 kind-of-none = refl
 
-kind-missing : kind_in (of kinds.trak (of kinds.mdia (of kinds.minf (of kinds.stbl [])))) ≡ u32.Refused (refusal 5 0x73747364)
+kind-missing : kind_in (of kinds.trak (of kinds.mdia (of kinds.minf (of kinds.stbl [])))) ≡ Err (refusal.Missing 0x73747364)
 unfolding be bytes field when rule_of one decode row_of first_in nth_in within stsd_in
 kind-missing = refl

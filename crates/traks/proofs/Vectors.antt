@@ -1,11 +1,13 @@
 -- Worked examples of the definitions, computed. Assumes nothing.
+use Rattle.std.specs.Prelude.{Ok, Err, Some, None}
 use mathlib.Core.Path.{◌≡◌, refl}
 use mathlib.Core.List.{List, [], ◌∷◌, ◌++◌}
 use mathlib.Core.Bool.{false}
 use Prim.Native.Nat.{ℕ}
 use lib.ListN.{replicate}
 use Rattle.numbers.specs.Number.{be, bytes}
-use Rattle.numbers.specs.Field.{refusal, field, when}
+use Rattle.numbers.specs.Field.{field, when}
+use Rattle.numbers.specs.declared.Refusal.TheVariants as refusal
 use Rattle.layout.specs.Rule.{rule_of}
 use Rattle.layout.specs.Read.{one, decode}
 use Rattle.layout.specs.Table.{cut_of}
@@ -16,9 +18,6 @@ use Rattle.places.specs.Kinds.{ftyp, moov, trak, tkhd, mdia, minf, stbl, stts, s
 use Rattle.keys.specs.Key.{keys, pick_key}
 use Rattle.kin.specs.Kin.{Boxes, boxes}
 use Rattle.inside.specs.Inside.{next_in, rows_in, child}
-use Rattle.stbl.specs.declared.Span.TheVariants as span
-use Rattle.stbl.specs.declared.Found.TheVariants.{Is, Refused}
-use Rattle.tables.specs.declared.Optional.TheVariants as optional
 use Rattle.traks.specs.Traks.{traks_of, next_trak, number_of, boxes_in, tables_of}
 
 -- numbers of four bytes
@@ -81,23 +80,23 @@ cut = refl
 -- THE TABLES
 
 places : boxes_in tables 12 7 ≡
-    record { stts = span.At 24 32; ctts = span.Absent; stsc = span.At 56 40; stsz = span.At 96 44; stco = span.At 140 32; co64 = span.Absent; stss = span.Absent }
+    record { stts = Some (24, 32); ctts = None; stsc = Some (56, 40); stsz = Some (96, 44); stco = Some (140, 32); co64 = None; stss = None }
 unfolding when next_in child
 places = refl
 
 track : tables_of file tables 12 3 ≡
-    Is (record {
+    Ok (record {
       stts = record { at = 40; count = 2 };
-      ctts = optional.Absent;
+      ctts = None;
       stsc = record { at = 72; count = 2 };
       stsz = record { at = 116; count = 6; common = 0 };
       stco = record { at = 156; count = 4; wide = false };
-      stss = optional.Absent;
+      stss = None;
     })
 unfolding be bytes field when rule_of one decode cut_of width_of allowed_of last_of cells_of entries_of next_in child tables_of
 track = refl
 
 -- a trak without an mdia has no tables
-no-mdia : tables_of file tables 12 12 ≡ Refused (refusal 5 stts)
+no-mdia : tables_of file tables 12 12 ≡ Err (refusal.Missing stts)
 unfolding when next_in child tables_of
 no-mdia = refl

@@ -1,4 +1,4 @@
-#![tactic(auto)]
+#![tactic(auto, unfolding(numbers::specs::Field::when, numbers::specs::Field::field))]
 // What the tracks of a file tell, by the boxes that are recorded in the tables. A trak is named by its row and 1.
 ghost use Rattle.std.specs.Prelude.{◌≡◌, ◌<◌};
 ghost use Rattle.places.specs.Kinds.{tkhd};
@@ -8,9 +8,9 @@ ghost use Rattle.contents.specs.Held.{part_of, number_in};
 ghost use Rattle.inside.specs.Inside.{child};
 ghost use Rattle.traks.specs.Traks.{next_trak, number_of, span_in, boxes_in, tables_of};
 
-use keys::Key;
+use numbers::Refusal;
 use places::kinds;
-use stbl::{Boxes, Found, Span};
+use stbl::Boxes;
 
 // The first trak of the moov from row `from` on, of n recorded boxes: its row and 1, which is the row to go on from; 0
 // where there is none.
@@ -53,8 +53,8 @@ fn number_at(
     ensures { result ≡ number_in (key_of tkhd (part_of s.now (boxes starts.now sizes.now kinds.now parents.now placed.now) j)) }
 {
     match keys::find(kinds::TKHD, parts::part(s, starts[j], sizes[j])) {
-        Key::Absent => 0,
-        Key::Is(x, _) => x as u32,
+        None => 0,
+        Some((x, _)) => x as u32,
     }
 }
 
@@ -88,14 +88,14 @@ fn span_of(
     kinds: &[usize; 4096],
     parents: &[usize; 4096],
     placed: &[usize; 4096],
-) -> Span
+) -> Option<(usize, usize)>
     ensures { result ≡ span_in (boxes starts.now sizes.now kinds.now parents.now placed.now) (child (boxes starts.now sizes.now kinds.now parents.now placed.now) n kind p) }
 {
     let row = inside::child(kind, p, n, starts, sizes, kinds, parents, placed);
     if row == 0 {
-        return Span::Absent;
+        return None;
     }
-    Span::At(starts[row - 1], sizes[row - 1])
+    Some((starts[row - 1], sizes[row - 1]))
 }
 
 fn boxes_in(
@@ -130,7 +130,7 @@ pub fn tables(
     kinds: &[usize; 4096],
     parents: &[usize; 4096],
     placed: &[usize; 4096],
-) -> Found
+) -> Result<tables::Track, Refusal>
     ensures { result ≡ tables_of s.now (boxes starts.now sizes.now kinds.now parents.now placed.now) n trak }
 {
     let mdia = inside::child(kinds::MDIA, trak, n, starts, sizes, kinds, parents, placed);

@@ -1,4 +1,5 @@
 -- From tables of its own to the lent ones: what `tree` copies is what `puts` says. Assumes nothing.
+use Rattle.std.specs.Prelude.{Ok, Err}
 use mathlib.Core.Path.{◌≡◌, refl, sym, ap, ap₂, ◌∙◌}
 use mathlib.Core.List.{List, map}
 use Prim.Native.Nat.{ℕ, ◌+◌, ◌≤◌}
@@ -14,8 +15,6 @@ use Rattle.tree.specs.Tables.{Tables, tables, bit, puts, Out, out, recorded, all
 use Rattle.places.specs.declared.Node.{Node}
 use Rattle.tree.specs.declared.Scanned.{Scanned}
 use Rattle.tree.specs.declared.Scanned.TheVariants as scan
-use Rattle.tree.specs.declared.Answer.{Answer}
-use Rattle.tree.specs.declared.Answer.TheVariants as answer
 use Rattle.tree.proofs.Columns.{columns, moved}
 use Rattle.tree.proofs.Order.{tree-few}
 
@@ -47,10 +46,10 @@ module _ (s a b c d e f : List ℕ) (r : Scanned) (told : out r (tables a b c d 
           let z : ◌≡◌ {A = ℕ} 0 1 = cc in
           absurd (omega arith)
 
-  pub refused : (t : Tables) (n : ℕ) (q : Refusal) → r ≡ scan.Fault n q → out (answer.Refused q) t ≡ all_of t (tree_of s)
+  pub refused : (t : Tables) (n : ℕ) (q : Refusal) → r ≡ scan.Fault n q → out (Err q) t ≡ all_of t (tree_of s)
   refused t n q g = by (tree_of s) refl
     where
-      by : (w : Walked) → tree_of s ≡ w → out (answer.Refused q) t ≡ all_of t (tree_of s)
+      by : (w : Walked) → tree_of s ≡ w → out (Err q) t ≡ all_of t (tree_of s)
       by (whole xs) h =
           let p : out r (tables a b c d e f) ≡ out (scan.Whole (0 + length xs)) (puts (tables zeros zeros zeros zeros zeros zeros) 0 xs) =
           told ∙ ap (recorded (tables zeros zeros zeros zeros zeros zeros) 0) h in
@@ -60,7 +59,7 @@ module _ (s a b c d e f : List ℕ) (r : Scanned) (told : out r (tables a b c d 
           let p : out r (tables a b c d e f) ≡ out (scan.Fault (0 + length xs) o) (puts (tables zeros zeros zeros zeros zeros zeros) 0 xs) =
           told ∙ ap (recorded (tables zeros zeros zeros zeros zeros zeros) 0) h in
           let i : q ≡ o = cc in
-          ap (λ v. out (answer.Refused v) t) i ∙ sym (ap (all_of t) h)
+          ap (λ v. out (Err v) t) i ∙ sym (ap (all_of t) h)
 
   module _ (n : ℕ) (g : r ≡ scan.Whole n) where
     k : Kept n
@@ -102,7 +101,7 @@ module _ (s a b c d e f : List ℕ) (r : Scanned) (told : out r (tables a b c d 
 
     module _ (a₀ b₀ c₀ d₀ e₀ f₀ a₁ b₁ c₁ d₁ e₁ f₁ : List ℕ) where
       pub all : a₁ ≡ sets a₀ 0 (take n a) → b₁ ≡ sets b₀ 0 (take n b) → c₁ ≡ sets c₀ 0 (take n c) → d₁ ≡ sets d₀ 0 (take n d) → e₁ ≡ sets e₀ 0 (take n e) → f₁ ≡ sets f₀ 0 (take n f) →
-          out (answer.Done n) (tables a₁ b₁ c₁ d₁ e₁ f₁) ≡ all_of (tables a₀ b₀ c₀ d₀ e₀ f₀) (tree_of s)
+          out (Ok n) (tables a₁ b₁ c₁ d₁ e₁ f₁) ≡ all_of (tables a₀ b₀ c₀ d₀ e₀ f₀) (tree_of s)
       all ea eb ec ed ee ef =
           let xs = k.nodes in
           let pa : a₁ ≡ sets a₀ 0 (map (λ x. x.start) xs) = copied (λ x. x.start) a a₀ a₁ (cc parts) ea in
@@ -112,4 +111,4 @@ module _ (s a b c d e f : List ℕ) (r : Scanned) (told : out r (tables a b c d 
           let pe : e₁ ≡ sets e₀ 0 (map (λ x. x.depth) xs) = copied (λ x. x.depth) e e₀ e₁ (cc parts) ee in
           let pf : f₁ ≡ sets f₀ 0 (map (λ x. bit x.placed) xs) = copied (λ x. bit x.placed) f f₀ f₁ (cc parts) ef in
           let same : tables a₁ b₁ c₁ d₁ e₁ f₁ ≡ puts (tables a₀ b₀ c₀ d₀ e₀ f₀) 0 xs = cc (columns a₀ b₀ c₀ d₀ e₀ f₀ 0 xs) in
-          ap₂ (λ i t. out (answer.Done i) t) k.count same ∙ sym (ap (all_of (tables a₀ b₀ c₀ d₀ e₀ f₀)) k.same)
+          ap₂ (λ i t. out (Ok i) t) k.count same ∙ sym (ap (all_of (tables a₀ b₀ c₀ d₀ e₀ f₀)) k.same)

@@ -1,5 +1,6 @@
 -- What a walk records is a forest: every box lies in its parent, starts rise, at most 4,096 are recorded, and a child
 -- stands one deeper than its parent. Assumes nothing.
+use Rattle.std.specs.Prelude.{Result, Ok, Err}
 use mathlib.Core.Path.{◌≡◌, refl, sym, ap, subst, ◌∙◌}
 use mathlib.Core.List.{List, [], ◌∷◌, ◌++◌, append-nil}
 use mathlib.Core.Bool.{Bool, true, false, ◌||◌}
@@ -11,16 +12,15 @@ use native.Mathlib.Omega.{arith}
 use lib.ListN.{length, take, length-append}
 use lib.Seq.{length-take-le}
 use lib.Dec.{ltb}
-use Rattle.numbers.specs.Field.{when, refusal}
+use Rattle.numbers.specs.Field.{when}
 use Rattle.numbers.proofs.Chain.{way}
 use Rattle.places.specs.Visit.{depth_limit, box_limit, visit_of}
 use Rattle.tree.specs.Walk.{Walked, whole, fault, after, onward, Walk, box_of, siblings, kids_of, walk_of, top_of, tree_of, file_limit}
 use Rattle.tree.specs.Forest.{nodes_of, Above, in_box, Forest, none, box}
 use Rattle.places.specs.declared.Node.{Node}
 use Rattle.places.specs.declared.Row.{Row}
-use Rattle.places.specs.declared.Visited.{Visited}
-use Rattle.places.specs.declared.Visited.TheVariants as visited
 use Rattle.places.proofs.Visits.{Seen, visit-seen}
+use Rattle.numbers.specs.declared.Refusal.{Refusal}
 
 nodes-after : (xs : List Node) (w : Walked) → nodes_of (after xs w) ≡ xs ++ nodes_of w
 nodes-after xs (whole ys) = refl
@@ -82,12 +82,12 @@ module _ (within : Walk) (left : ℕ) (few : left ≤ depth_limit) (grows : (lef
           (joined ks (nodes_of rest) g there)
       by-walk (fault ks q) g = subst (λ ns. Forest (over s left row) n at (x ∷ ns)) (append-nil ks) (joined ks [] g none)
 
-  boxed : (n at : ℕ) (v : Visited) → v ≡ visit_of s at left row n → (next : ℕ → ℕ → Walked) → ((p m : ℕ) → Forest (over s left row) m p (nodes_of (next p m))) →
+  boxed : (n at : ℕ) (v : Result (Node × Row) Refusal) → v ≡ visit_of s at left row n → (next : ℕ → ℕ → Walked) → ((p m : ℕ) → Forest (over s left row) m p (nodes_of (next p m))) →
       Forest (over s left row) n at (nodes_of (box_of within next s n v))
-  boxed n at (visited.Is x inner) e next f =
+  boxed n at (Ok (x, inner)) e next f =
       let met : Seen s at left row n x inner = visit-seen s at left row n x inner (sym e) in
       by-walk n at x inner met next f (within (take (x.start + x.size) s) inner (n + 1)) (kids n at x inner met)
-  boxed n at (visited.Refused q) e next f = none
+  boxed n at (Err q) e next f = none
 
   row-grows : (f n at : ℕ) → Forest (over s left row) n at (nodes_of (siblings within s left row f at n))
   unfolding siblings

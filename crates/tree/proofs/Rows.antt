@@ -1,6 +1,7 @@
 -- How many turns a row to the end is given makes no difference, once they are as many as there are bytes. So the
 -- definition means what a reader expects: at the end nothing, before it a box and then the row behind it.
 -- Assumes nothing.
+use Rattle.std.specs.Prelude.{Result, Ok, Err}
 use mathlib.Core.Path.{◌≡◌, refl, sym, ap, ◌∙◌}
 use mathlib.Core.List.{List, [], ◌∷◌}
 use mathlib.Core.Bool.{Bool, true, false, ◌||◌}
@@ -14,10 +15,9 @@ use Rattle.numbers.proofs.Chain.{by-false}
 use Rattle.places.specs.Visit.{visit_of}
 use Rattle.places.specs.declared.Node.{Node}
 use Rattle.places.specs.declared.Row.{Row}
-use Rattle.places.specs.declared.Visited.{Visited}
-use Rattle.places.specs.declared.Visited.TheVariants as visited
 use Rattle.places.proofs.Visits.{Seen, visit-seen}
 use Rattle.tree.specs.Walk.{Walked, whole, fault, after, onward, Walk, box_of, siblings}
+use Rattle.numbers.specs.declared.Refusal.{Refusal}
 
 module _ (within : Walk) (s : List ℕ) (left : ℕ) (row : Row) (to_end : row.counted ≡ false) where
   -- at the end there is nothing
@@ -33,14 +33,14 @@ module _ (within : Walk) (s : List ℕ) (left : ℕ) (row : Row) (to_end : row.c
   same-onward (whole xs) go on h = ap (after xs) (h (length xs))
   same-onward (fault xs q) go on h = refl
 
-  same-box : (n at : ℕ) (next after-it : ℕ → ℕ → Walked) → ((p m : ℕ) → at + 8 ≤ p → next p m ≡ after-it p m) → (v : Visited) → v ≡ visit_of s at left row n →
+  same-box : (n at : ℕ) (next after-it : ℕ → ℕ → Walked) → ((p m : ℕ) → at + 8 ≤ p → next p m ≡ after-it p m) → (v : Result (Node × Row) Refusal) → v ≡ visit_of s at left row n →
       box_of within next s n v ≡ box_of within after-it s n v
-  same-box n at next after-it h (visited.Is x inner) e =
+  same-box n at next after-it h (Ok (x, inner)) e =
       let met : Seen s at left row n x inner = visit-seen s at left row n x inner (sym e) in
       let far : at + 8 ≤ x.start + x.size = omega (arith, met.start, met.some) in
       ap (after (x ∷ []))
       (same-onward (within (take (x.start + x.size) s) inner (n + 1)) _ _ (λ k. h (x.start + x.size) (n + 1 + k) far))
-  same-box n at next after-it h (visited.Refused q) e = refl
+  same-box n at next after-it h (Err q) e = refl
 
   pub enough : (f g at n : ℕ) → length s - at ≤ f → length s - at ≤ g → siblings within s left row f at n ≡ siblings within s left row g at n
   unfolding siblings

@@ -1,10 +1,13 @@
 -- Worked examples of the definitions, computed. Assumes nothing.
+use Rattle.std.specs.Prelude.{Err}
 use mathlib.Core.Path.{◌≡◌, refl}
 use mathlib.Core.List.{List, [], ◌∷◌}
 use mathlib.Core.Bool.{Bool, true, false}
 use Prim.Native.Nat.{ℕ}
 use Rattle.numbers.specs.Number.{be}
-use Rattle.numbers.specs.Field.{refusal, field, when}
+use Rattle.numbers.specs.Field.{field, when}
+use Rattle.numbers.specs.Refusals.{detail}
+use Rattle.numbers.specs.declared.Refusal.TheVariants as refusal
 use Rattle.places.specs.Kinds.{ftyp, moov, mvhd, trak, tkhd}
 use Rattle.places.specs.Places.{places, listed}
 use Rattle.tree.specs.Walk.{Walked, whole, fault, siblings, kids_of, tree_of}
@@ -12,7 +15,6 @@ use Rattle.tree.specs.Forest.{nodes_of}
 use Rattle.tree.specs.Tables.{tables, puts, out, scan_of, all_of}
 use Rattle.places.specs.declared.Node.{Node}
 use Rattle.tree.specs.declared.Scanned.TheVariants as scan
-use Rattle.tree.specs.declared.Answer.TheVariants as answer
 
 node : ℕ → ℕ → ℕ → ℕ → ℕ → Bool → Node
 node start size kind parent depth placed = record { start = start; size = size; kind = kind; parent = parent; depth = depth; placed = placed }
@@ -31,7 +33,7 @@ recorded : scan_of file (tables (9 ∷ 9 ∷ 9 ∷ 9 ∷ 9 ∷ 9 ∷ 9 ∷ []) [
 unfolding be field when places listed siblings kids_of puts file
 recorded = refl
 
--- ten levels are accepted; at the eleventh 3, with the ten boxes above it
+-- ten levels are accepted; the eleventh is too deep, told with the ten boxes above it
 answer_of : Walked → Bool
 answer_of (whole ns) = true
 answer_of (fault ns q) = false
@@ -46,7 +48,7 @@ ten-levels : answer_of (tree_of ten) ≡ true
 unfolding be field when places listed siblings kids_of answer_of ten
 ten-levels = refl
 
-eleven-levels : (a b c d e f : List ℕ) → all_of (tables a b c d e f) (tree_of deep) ≡ out (answer.Refused (refusal 3 80)) (tables a b c d e f)
+eleven-levels : (a b c d e f : List ℕ) → all_of (tables a b c d e f) (tree_of deep) ≡ out (Err (refusal.Depth 80)) (tables a b c d e f)
 unfolding be field when places listed siblings kids_of deep
 eleven-levels a b c d e f = refl
 
@@ -56,13 +58,13 @@ last_of [] = node 0 0 0 0 0 false
 last_of (x ∷ []) = x
 last_of (x ∷ (y ∷ ys)) = last_of (y ∷ ys)
 
--- an stsd that counts two entries and has one: 1 where the second begins
+-- an stsd that counts two entries and has one: cut where the second begins
 counted : List ℕ
 counted = 0 ∷ 0 ∷ 0 ∷ 64 ∷ 109 ∷ 111 ∷ 111 ∷ 118 ∷ 0 ∷ 0 ∷ 0 ∷ 56 ∷ 116 ∷ 114 ∷ 97 ∷ 107 ∷ 0 ∷ 0 ∷ 0 ∷ 48 ∷ 109 ∷ 100 ∷ 105 ∷ 97 ∷ 0 ∷ 0 ∷ 0 ∷ 40 ∷ 109 ∷ 105 ∷ 110 ∷ 102 ∷ 0 ∷ 0 ∷ 0 ∷ 32 ∷ 115 ∷ 116 ∷ 98 ∷ 108 ∷ 0 ∷ 0 ∷ 0 ∷ 24 ∷ 115 ∷ 116 ∷ 115 ∷ 100 ∷ 0 ∷ 0 ∷ 0 ∷ 0 ∷ 0 ∷ 0 ∷ 0 ∷ 2 ∷ 0 ∷ 0 ∷ 0 ∷ 8 ∷ 116 ∷ 120 ∷ 51 ∷ 103 ∷ []
 
 fault_of : Walked → ℕ
 fault_of (whole ns) = 0
-fault_of (fault ns q) = q.detail
+fault_of (fault ns q) = detail q
 
 one-short : fault_of (tree_of counted) ≡ 64
 unfolding be field when places listed siblings kids_of fault_of counted

@@ -1,4 +1,5 @@
 -- The walk's loop: what is recorded from here on is what is recorded from the start. Assumes nothing.
+use Rattle.std.specs.Prelude.{Result, Ok, Err}
 use mathlib.Core.Path.{◌≡◌, refl, sym, ap, ap₂, ◌∙◌}
 use mathlib.Core.List.{List, [], ◌∷◌, ◌++◌}
 use mathlib.Core.Bool.{Bool, true, false, ◌||◌}
@@ -16,8 +17,6 @@ use Rattle.tree.specs.Walk.{Walked, whole, fault, after, onward, Walk, box_of, s
 use Rattle.tree.specs.Tables.{Tables, put, puts, Out, out, recorded}
 use Rattle.places.specs.declared.Node.{Node}
 use Rattle.places.specs.declared.Row.{Row}
-use Rattle.places.specs.declared.Visited.{Visited}
-use Rattle.places.specs.declared.Visited.TheVariants as visited
 use Rattle.tree.specs.declared.Scanned.{Scanned}
 use Rattle.tree.specs.declared.Scanned.TheVariants as scan
 use Rattle.places.proofs.Visits.{Seen, visit-seen}
@@ -92,17 +91,17 @@ module _ (s : List ℕ) (left : ℕ) (row : Row) (t : Tables) (f at n : ℕ) whe
     pub at-end : ◌||◌ row.counted (ltb at (length s)) ≡ false → out (scan.Whole n) t ≡ recorded t n here
     at-end e = sym (ap (recorded t n) (opened f some ∙ sym (by-false _ _ _ _ e refl)) ∙ recorded-none t n)
 
-    module _ (e : ◌||◌ row.counted (ltb at (length s)) ≡ true) (v : Visited) (visits : v ≡ visit_of s at left row n) where
+    module _ (e : ◌||◌ row.counted (ltb at (length s)) ≡ true) (v : Result (Node × Row) Refusal) (visits : v ≡ visit_of s at left row n) where
       turned : here ≡ box_of (kids_of left) (λ p m. siblings (kids_of left) s left row (f - 1) p m) s n v
       turned =
           opened f some ∙ sym (by-true _ _ _ _ e refl)
           ∙ ap (box_of (kids_of left) (λ p m. siblings (kids_of left) s left row (f - 1) p m) s n) (sym visits)
 
-      pub refused : (q : Refusal) → v ≡ visited.Refused q → out (scan.Fault n q) t ≡ recorded t n here
+      pub refused : (q : Refusal) → v ≡ Err q → out (scan.Fault n q) t ≡ recorded t n here
       refused q g =
           sym (ap (recorded t n) (turned ∙ ap (box_of (kids_of left) (λ p m. siblings (kids_of left) s left row (f - 1) p m) s n) g) ∙ recorded-fault t n q)
 
-      module _ (node : Node) (inner : Row) (g : v ≡ visited.Is node inner) where
+      module _ (node : Node) (inner : Row) (g : v ≡ Ok (node, inner)) where
         met : Seen s at left row n node inner
         met = visit-seen s at left row n node inner (sym visits ∙ g)
 

@@ -1,12 +1,11 @@
 -- The tables in which a walk is recorded: a number in each for every box. Assumes nothing.
-use Rattle.std.specs.Prelude.{ℕ, suc, ◌+◌, List, [], ◌∷◌, Bool, true, false, length, set, replicate}
+use Rattle.std.specs.Prelude.{ℕ, suc, ◌+◌, List, [], ◌∷◌, Bool, true, false, length, set, replicate, Result, Ok, Err}
 use Rattle.places.specs.Visit.{box_limit}
 use Rattle.tree.specs.Walk.{Walked, whole, fault, tree_of}
 use Rattle.places.specs.declared.Node.{Node}
 use Rattle.tree.specs.declared.Scanned.{Scanned}
 use Rattle.tree.specs.declared.Scanned.TheVariants as scan
-use Rattle.tree.specs.declared.Answer.{Answer}
-use Rattle.tree.specs.declared.Answer.TheVariants as answer
+use Rattle.numbers.specs.declared.Refusal.{Refusal}
 
 -- starts, sizes, types, parents, depths, and 1 where a box stands in its place
 pub data Tables : Type 0 where
@@ -39,6 +38,6 @@ abbrev pub scan_of : List ℕ → Tables → Out Scanned
 scan_of s t = recorded t 0 (tree_of s)
 
 -- all boxes or a refusal, which leaves the tables as they were
-abbrev pub all_of : Tables → Walked → Out Answer
-all_of t (whole nodes) = out (answer.Done (length nodes)) (puts t 0 nodes)
-all_of t (fault nodes q) = out (answer.Refused q) t
+abbrev pub all_of : Tables → Walked → Out (Result ℕ Refusal)
+all_of t (whole nodes) = out (Ok (length nodes)) (puts t 0 nodes)
+all_of t (fault nodes q) = out (Err q) t

@@ -1,13 +1,12 @@
 -- The tree of a file: its boxes in file order, each before those in it, up to the first fault (A1). Assumes nothing.
-use Rattle.std.specs.Prelude.{ℕ, zero, suc, ◌+◌, List, [], ◌∷◌, ◌++◌, Bool, true, false, ◌||◌, length, take, ltb}
-use Rattle.numbers.specs.Field.{refusal, when}
+use Rattle.std.specs.Prelude.{ℕ, zero, suc, ◌+◌, List, [], ◌∷◌, ◌++◌, Bool, true, false, ◌||◌, length, take, ltb, Result, Ok, Err}
+use Rattle.numbers.specs.Field.{when}
+use Rattle.numbers.specs.declared.Refusal.TheVariants as refusal
 use Rattle.numbers.specs.declared.Refusal.{Refusal}
 use Rattle.places.specs.Places.{file}
 use Rattle.places.specs.Visit.{depth_limit, row, visit_of}
 use Rattle.places.specs.declared.Node.{Node}
 use Rattle.places.specs.declared.Row.{Row}
-use Rattle.places.specs.declared.Visited.{Visited}
-use Rattle.places.specs.declared.Visited.TheVariants as visited
 
 -- the largest file, in bytes (document 01, Limits)
 abbrev pub file_limit : ℕ
@@ -33,11 +32,11 @@ abbrev pub Walk : Type 0
 Walk = List ℕ → Row → ℕ → Walked
 
 -- a box and those in it, and on behind it
-abbrev pub box_of : Walk → (ℕ → ℕ → Walked) → List ℕ → ℕ → Visited → Walked
-box_of within next s count (visited.Is node inner) =
+abbrev pub box_of : Walk → (ℕ → ℕ → Walked) → List ℕ → ℕ → Result (Node × Row) Refusal → Walked
+box_of within next s count (Ok (node, inner)) =
     let end = node.start + node.size in
     after (node ∷ []) (onward (within (take end s) inner (count + 1)) (λ k. next end (count + 1 + k)))
-box_of within next s count (visited.Refused q) = fault [] q
+box_of within next s count (Err q) = fault [] q
 
 -- at most f boxes from `at` on. A counted row must have them all; another one ends where the bytes do.
 unfoldable pub siblings : Walk → List ℕ → ℕ → Row → ℕ → ℕ → ℕ → Walked
@@ -64,4 +63,4 @@ abbrev pub top_of : List ℕ → Row
 top_of s = row 0 (length s) false 0 file true
 
 abbrev pub tree_of : List ℕ → Walked
-tree_of s = when (ltb file_limit (length s)) (fault [] (refusal 4 0)) (walk_of depth_limit s (top_of s) 0)
+tree_of s = when (ltb file_limit (length s)) (fault [] (refusal.Limit 0)) (walk_of depth_limit s (top_of s) 0)

@@ -1,4 +1,4 @@
-#![tactic(auto)]
+#![tactic(auto, unfolding(numbers::specs::Field::when, numbers::specs::Field::field))]
 // The tree of a file's boxes, as tables: each header is read once, in file order, and recorded in one row of every table.
 ghost use Rattle.std.specs.Prelude.{◌≡◌, ◌<◌};
 ghost use Rattle.places.specs.Visit.{box_limit};
@@ -6,7 +6,7 @@ ghost use Rattle.tree.specs.Walk.{walk_of};
 ghost use Rattle.tree.specs.Tables.{bit, tables, put, out, recorded, scan_of};
 
 use numbers::Refusal;
-use places::{Node, Row, Visited};
+use places::{Node, Row};
 
 // The largest file, in bytes.
 pub const FILE_LIMIT: usize = 1_073_741_824;
@@ -16,13 +16,6 @@ pub const FILE_LIMIT: usize = 1_073_741_824;
 pub enum Scanned {
     Whole(usize),
     Fault(usize, Refusal),
-}
-
-// How many boxes there are, or why the tree is refused.
-#[derive(Clone, Copy)]
-pub enum Answer {
-    Done(usize),
-    Refused(Refusal),
 }
 
 fn bit_of(t: bool) -> usize
@@ -77,10 +70,10 @@ fn walk(
         if row.counted | (at < s.len()) {
             let seen = places::visit(s, at, left, row, n);
             match seen {
-                Visited::Refused(q) => {
+                Err(q) => {
                     return Scanned::Fault(n, q);
                 }
-                Visited::Is(node, inner) => {
+                Ok((node, inner)) => {
                     record_at(n, node, starts, sizes, kinds, parents, depths, placed);
                     let end = node.start + node.size;
                     let within = walk(
@@ -129,13 +122,7 @@ pub fn scan(
         ≡ scan_of s.now (tables starts.old sizes.old kinds.old parents.old depths.old placed.old) }
 {
     if FILE_LIMIT < s.len() {
-        return Scanned::Fault(
-            0,
-            Refusal {
-                number: 4,
-                detail: 0,
-            },
-        );
+        return Scanned::Fault(0, Refusal::Limit(0));
     }
     let top = Row {
         at: 0,

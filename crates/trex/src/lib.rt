@@ -1,4 +1,4 @@
-#![tactic(auto)]
+#![tactic(auto, unfolding(numbers::specs::Field::when, numbers::specs::Field::field))]
 // The defaults of a track in fragments (ISO/IEC 14496-12, 8.8.3). A track number of 0 is 8 (A18).
 ghost use Rattle.std.specs.Prelude.{◌≡◌};
 ghost use Rattle.put.specs.Put.{wrote};
@@ -6,7 +6,6 @@ ghost use Rattle.trex.specs.Trex.{trex_of, trex_in};
 
 use layout::Field;
 use numbers::Refusal;
-use put::Put;
 
 #[derive(Clone, Copy)]
 pub struct Trex {
@@ -17,12 +16,6 @@ pub struct Trex {
     pub default_sample_duration: u32,
     pub default_sample_size: u32,
     pub default_sample_flags: u32,
-}
-
-#[derive(Clone, Copy)]
-pub enum Found {
-    Is(Trex),
-    Refused(Refusal),
 }
 
 pub const KIND: u32 = 0x74726578;
@@ -38,18 +31,12 @@ pub const ROW: [Field; 8] = [
     Field::Nothing,
 ];
 
-pub fn read(part: &[u8]) -> Found
+pub fn read(part: &[u8]) -> Result<Trex, Refusal>
     ensures { result ≡ trex_of part.now }
 {
-    let got = short::read::by(part, KIND, ROW);
-    if got.number != 0 {
-        return Found::Refused(Refusal {
-            number: got.number,
-            detail: got.place,
-        });
-    }
+    let got = short::read::by(part, KIND, ROW)?;
     let v = got.values;
-    Found::Is(Trex {
+    Ok(Trex {
         version: v[0] as u8,
         flags: v[1] as u32,
         track_id: v[2] as u32,
@@ -60,7 +47,7 @@ pub fn read(part: &[u8]) -> Found
     })
 }
 
-pub fn write(trex: Trex, out: &mut [u8]) -> Put
+pub fn write(trex: Trex, out: &mut [u8]) -> Result<usize, Refusal>
     ensures { wrote result out.new ≡ trex_in trex out.old }
 {
     let v = [

@@ -1,4 +1,5 @@
 -- trun: what is written reads back the same, and a canonical box gives its own bytes. Assumes nothing.
+use Rattle.std.specs.Prelude.{Ok}
 use mathlib.Core.Path.{◌≡◌, refl}
 use mathlib.Core.List.{List, ◌++◌}
 use Prim.Native.Nat.{ℕ, ◌≤◌, ◌*◌}
@@ -6,20 +7,18 @@ use native.Mathlib.Omega.{arith}
 use lib.ListN.{length, take, drop}
 use Rattle.numbers.specs.Field.{when}
 use Rattle.put.specs.Put.{wrote}
-use Rattle.put.specs.declared.Put.TheVariants.{Done}
 use Rattle.layout.specs.Rule.{rule_of}
 use Rattle.layout.specs.Canonical.{slots, firsts, Canonical}
 use Rattle.rounds.proofs.TableBoxes.{table-back, table-own}
 use Rattle.trun.specs.Trun.{kind, fields, from, to, cells, trun_of, trun_in}
 use Rattle.trun.specs.declared.Trun.{Trun}
-use Rattle.trun.specs.declared.Found.TheVariants.{Is, Refused}
 
-pub trun-back : (m : Trun) (entries buf : List ℕ) (n : ℕ) (out : List ℕ) → trun_in m entries buf ≡ wrote (Done n) out →
-    (place : ℕ) × (trun_of (take n out) ≡ Is m place) × (drop place (take n out) ≡ entries)
+pub trun-back : (m : Trun) (entries buf : List ℕ) (n : ℕ) (out : List ℕ) → trun_in m entries buf ≡ wrote (Ok n) out →
+    (place : ℕ) × (trun_of (take n out) ≡ Ok (m, place)) × (drop place (take n out) ≡ entries)
 unfolding slots firsts rule_of when
-trun-back = table-back Is Refused from to cells 4 kind fields (omega arith) (λ m. refl)
+trun-back = table-back from to cells 4 kind fields (omega arith) (λ m. refl)
 
-pub trun-own : (b : List ℕ) (m : Trun) (place : ℕ) → Canonical kind fields (cells m * 4) b → trun_of b ≡ Is m place → (buf : List ℕ) → length b ≤ length buf →
-    trun_in m (drop place b) buf ≡ wrote (Done (length b)) (b ++ drop (length b) buf)
+pub trun-own : (b : List ℕ) (m : Trun) (place : ℕ) → Canonical kind fields (cells m * 4) b → trun_of b ≡ Ok (m, place) → (buf : List ℕ) → length b ≤ length buf →
+    trun_in m (drop place b) buf ≡ wrote (Ok (length b)) (b ++ drop (length b) buf)
 unfolding slots firsts rule_of when
-trun-own = table-own Is Refused from to cells 4 kind fields (λ a b p q e. ((cc), (cc))) (λ r m p e. let z : ◌≡◌ {A = ℕ} 0 1 = cc in omega arith) (λ v. refl) (omega arith)
+trun-own = table-own from to cells 4 kind fields (λ v. refl) (omega arith)

@@ -1,6 +1,6 @@
 -- The track fragment run (ISO/IEC 14496-12, 8.8.8): a count of samples, where their data begin, the flags of the first
 -- one, and for each sample those of its four values whose flags are set. Assumes nothing.
-use Rattle.std.specs.Prelude.{ℕ, ◌+◌, ◌*◌, List, [], ◌∷◌, get_or, ℤ, pos, eqb}
+use Rattle.std.specs.Prelude.{ℕ, ◌+◌, ◌*◌, List, [], ◌∷◌, get_or, ℤ, pos, eqb, Result, Option, Ok, Err, Some, None}
 use Rattle.numbers.specs.Field.{field, when}
 use Rattle.numbers.specs.declared.Refusal.{Refusal}
 use Rattle.signed.specs.Signed.{signed}
@@ -12,12 +12,7 @@ use Rattle.layout.specs.Table.{tabled, write_table}
 use Rattle.layout.specs.declared.Field.{Field}
 use Rattle.layout.specs.declared.Field.TheVariants.{Number, Optional, Version, Flags}
 use Rattle.trun.specs.declared.Trun.{Trun}
-use Rattle.trun.specs.declared.Found.{Found}
-use Rattle.trun.specs.declared.Found.TheVariants.{Is, Refused}
-use Rattle.trun.specs.declared.DataOffset.{DataOffset}
-use Rattle.trun.specs.declared.DataOffset.TheVariants as offset
-use Rattle.trun.specs.declared.Listed.{Listed}
-use Rattle.trun.specs.declared.Listed.TheVariants as sample
+use Rattle.trun.specs.declared.Sample.{Sample}
 
 abbrev pub kind : ℕ
 kind = 0x7472756e
@@ -66,15 +61,15 @@ cells_of flags n = n * per_sample flags
 abbrev pub cells : Trun → ℕ
 cells m = cells_of m.flags m.sample_count
 
-abbrev pub trun_of : List ℕ → Found
-trun_of part = tabled Is Refused from cells 4 part (read_of kind fields part)
+abbrev pub trun_of : List ℕ → Result (Trun × ℕ) Refusal
+trun_of part = tabled from cells 4 part (read_of kind fields part)
 
 abbrev pub trun_in : Trun → List ℕ → List ℕ → Wrote
 trun_in m entries out = write_table kind fields (to m) (cells m * 4) entries out
 
 -- the data offset, where it is there: two's complement
-abbrev pub offset_of : Trun → DataOffset
-offset_of m = when (is_set m.flags data_offset_bit) (offset.Is (signed 4 m.data_offset)) offset.Absent
+abbrev pub offset_of : Trun → Option ℤ
+offset_of m = when (is_set m.flags data_offset_bit) (Some (signed 4 m.data_offset)) None
 
 -- a composition offset: any number in version 0, two's complement from version 1 on (A49)
 abbrev pub composition_of : ℕ → ℕ → ℤ
@@ -85,14 +80,14 @@ unfoldable pub optional : {A : Type 0} → (Refusal → A) → ℕ → ℕ → L
 optional refused flags bit s at go = when (is_set flags bit) (field refused 4 s at go) (go 0)
 
 -- the sample at `at`: each value lies behind those that are there
-abbrev pub sample_at : ℕ → ℕ → List ℕ → ℕ → Listed
+abbrev pub sample_at : ℕ → ℕ → List ℕ → ℕ → Result Sample Refusal
 sample_at version flags s at =
-    optional sample.Refused flags duration_bit s at
-    (λ d. optional sample.Refused flags size_bit s (at + present flags duration_bit * 4)
-    (λ z. optional sample.Refused flags flags_bit s (at + present flags duration_bit * 4 + present flags size_bit * 4)
-    (λ f. optional sample.Refused flags composition_bit s (at + present flags duration_bit * 4 + present flags size_bit * 4 + present flags flags_bit * 4)
-    (λ o. sample.Is (record { duration = d; size = z; flags = f; composition_offset = composition_of version o })))))
+    optional Err flags duration_bit s at
+    (λ d. optional Err flags size_bit s (at + present flags duration_bit * 4)
+    (λ z. optional Err flags flags_bit s (at + present flags duration_bit * 4 + present flags size_bit * 4)
+    (λ f. optional Err flags composition_bit s (at + present flags duration_bit * 4 + present flags size_bit * 4 + present flags flags_bit * 4)
+    (λ o. Ok (record { duration = d; size = z; flags = f; composition_offset = composition_of version o })))))
 
 -- the i-th sample
-abbrev pub entry_of : Trun → List ℕ → ℕ → Listed
+abbrev pub entry_of : Trun → List ℕ → ℕ → Result Sample Refusal
 entry_of m entries i = sample_at m.version m.flags entries (cells_of m.flags i * 4)

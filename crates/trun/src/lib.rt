@@ -1,7 +1,7 @@
-#![tactic(auto)]
+#![tactic(auto, unfolding(numbers::specs::Field::when, numbers::specs::Field::field))]
 // The track fragment run (ISO/IEC 14496-12, 8.8.8): a count of samples, where their data begin, the flags of the first
 // one, and for each sample those of its four values whose flags are set. A field whose flag is not set is 0.
-ghost use Rattle.std.specs.Prelude.{◌≡◌};
+ghost use Rattle.std.specs.Prelude.{◌≡◌, Ok, Err};
 ghost use Rattle.put.specs.Put.{wrote};
 ghost use Rattle.signed.specs.Signed.{signed};
 ghost use Rattle.layout.specs.Rule.{is_set};
@@ -9,9 +9,7 @@ ghost use Rattle.trun.specs.Trun.{present, per_sample, cells_of, optional, compo
 ghost use Rattle.trun.specs.Trun.{trun_of, trun_in, offset_of, entry_of};
 
 use layout::Field;
-use layout::table::Cut;
-use numbers::{Refusal, U32};
-use put::Put;
+use numbers::Refusal;
 
 // The data offset is kept as its 32 bits: `offset_of` says what they stand for.
 #[derive(Clone, Copy)]
@@ -21,13 +19,6 @@ pub struct Trun {
     pub sample_count: u32,
     pub data_offset: u32,
     pub first_sample_flags: u32,
-}
-
-// The box, and where its entries begin.
-#[derive(Clone, Copy)]
-pub enum Found {
-    Is(Trun, usize),
-    Refused(Refusal),
 }
 
 pub const KIND: u32 = 0x7472756e;
@@ -90,16 +81,11 @@ fn cells_of(flags: u32, n: u32) -> usize
     (n as usize) * per_sample(flags)
 }
 
-pub fn read(part: &[u8]) -> Found
+// The box, and where its entries begin.
+pub fn read(part: &[u8]) -> Result<(Trun, usize), Refusal>
     ensures { result ≡ trun_of part.now }
 {
-    let got = short::read::by(part, KIND, ROW);
-    if got.number != 0 {
-        return Found::Refused(Refusal {
-            number: got.number,
-            detail: got.place,
-        });
-    }
+    let got = short::read::by(part, KIND, ROW)?;
     let v = got.values;
     let place = got.place;
     let end = got.end;
@@ -113,24 +99,18 @@ pub fn read(part: &[u8]) -> Found
     let cells = cells_of(trun.flags, trun.sample_count);
     let cut = layout::table::first_cut(&part[..end], place, cells as u64, 4);
     match cut {
-        Cut::Whole => Found::Is(trun, place),
-        Cut::At(p) => Found::Refused(Refusal {
-            number: 1,
-            detail: p,
-        }),
+        None => Ok((trun, place)),
+        Some(p) => Err(Refusal::Cut(p)),
     }
 }
 
-// The entries are lent as the bytes that they have in the box; 13 where they are not as many as the count says.
-pub fn write(trun: Trun, entries: &[u8], out: &mut [u8]) -> Put
+// The entries are lent as the bytes that they have in the box; Unwritable where they are not as many as the count says.
+pub fn write(trun: Trun, entries: &[u8], out: &mut [u8]) -> Result<usize, Refusal>
     ensures { wrote result out.new ≡ trun_in trun entries.now out.old }
 {
     let size = cells_of(trun.flags, trun.sample_count) * 4;
     if entries.len() != size {
-        return Put::Refused(Refusal {
-            number: 13,
-            detail: 0,
-        });
+        return Err(Refusal::Unwritable);
     }
     let v = [
         trun.version as u64,
@@ -155,20 +135,14 @@ fn signed_of(n: u32) -> i64
     -1 - ((0xffff_ffff - n) as i64)
 }
 
-#[derive(Clone, Copy)]
-pub enum DataOffset {
-    Absent,
-    Is(i64),
-}
-
 // Where the run's data begin, counted from its base: before it where the offset is below 0.
-pub fn offset_of(trun: Trun) -> DataOffset
+pub fn offset_of(trun: Trun) -> Option<i64>
     ensures { result ≡ offset_of trun }
 {
     if is_set(trun.flags, DATA_OFFSET_BIT) {
-        return DataOffset::Is(signed_of(trun.data_offset));
+        return Some(signed_of(trun.data_offset));
     }
-    DataOffset::Absent
+    None
 }
 
 // What a sample says of itself.
@@ -180,20 +154,15 @@ pub struct Sample {
     pub composition_offset: i64,
 }
 
-#[derive(Clone, Copy)]
-pub enum Listed {
-    Is(Sample),
-    Refused(Refusal),
-}
-
 // A sample's value at `at`; 0 where its flag is not set.
-fn value_at(s: &[u8], flags: u32, bit: u32, at: usize) -> U32
-    ensures { result ≡ optional U32.Refused flags bit s.now at U32.Is }
+#[tactic(auto, unfolding(numbers::specs::Field::when, numbers::specs::Field::field, crate::specs::Trun::optional))]
+fn value_at(s: &[u8], flags: u32, bit: u32, at: usize) -> Result<u32, Refusal>
+    ensures { result ≡ optional Err flags bit s.now at Ok }
 {
     if is_set(flags, bit) {
-        return numbers::u32_at(s, at);
+        return numbers::read::<u32>(s, at);
     }
-    U32::Is(0)
+    Ok(0)
 }
 
 fn composition_of(version: u8, n: u32) -> i64
@@ -206,41 +175,21 @@ fn composition_of(version: u8, n: u32) -> i64
 }
 
 // The i-th sample, counted from 0, of the bytes of the entries.
-pub fn entry(trun: Trun, entries: &[u8], i: u32) -> Listed
+pub fn entry(trun: Trun, entries: &[u8], i: u32) -> Result<Sample, Refusal>
     ensures { result ≡ entry_of trun entries.now i }
 {
     let set = trun.flags;
     let first = cells_of(set, i) * 4;
-    let U32::Is(duration) = value_at(entries, set, DURATION_BIT, first) else {
-        return Listed::Refused(Refusal {
-            number: 1,
-            detail: first,
-        });
-    };
+    let duration = value_at(entries, set, DURATION_BIT, first)?;
     let second = first + present_of(set, DURATION_BIT) * 4;
-    let U32::Is(size) = value_at(entries, set, SIZE_BIT, second) else {
-        return Listed::Refused(Refusal {
-            number: 1,
-            detail: second,
-        });
-    };
+    let size = value_at(entries, set, SIZE_BIT, second)?;
     let third = second + present_of(set, SIZE_BIT) * 4;
-    let U32::Is(own) = value_at(entries, set, FLAGS_BIT, third) else {
-        return Listed::Refused(Refusal {
-            number: 1,
-            detail: third,
-        });
-    };
+    let own = value_at(entries, set, FLAGS_BIT, third)?;
     let fourth = third + present_of(set, FLAGS_BIT) * 4;
-    let U32::Is(offset) = value_at(entries, set, COMPOSITION_BIT, fourth) else {
-        return Listed::Refused(Refusal {
-            number: 1,
-            detail: fourth,
-        });
-    };
-    Listed::Is(Sample {
-        duration: duration,
-        size: size,
+    let offset = value_at(entries, set, COMPOSITION_BIT, fourth)?;
+    Ok(Sample {
+        duration,
+        size,
         flags: own,
         composition_offset: composition_of(trun.version, offset),
     })

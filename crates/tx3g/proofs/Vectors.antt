@@ -1,18 +1,18 @@
 -- Worked examples of the definitions, computed. Assumes nothing.
+use Rattle.std.specs.Prelude.{Ok, Err}
 use mathlib.Core.Path.{◌≡◌, refl}
 use mathlib.Core.List.{List, [], ◌++◌}
 use Prim.Native.Nat.{ℕ}
 use lib.ListN.{replicate}
 use Rattle.numbers.specs.Number.{be, bytes}
-use Rattle.numbers.specs.Field.{refusal, field, when}
+use Rattle.numbers.specs.Field.{field, when}
+use Rattle.numbers.specs.declared.Refusal.TheVariants as refusal
 use Rattle.put.specs.Put.{wrote}
-use Rattle.put.specs.declared.Put.TheVariants as put
 use Rattle.layout.specs.Rule.{rule_of}
 use Rattle.layout.specs.Read.{one, decode}
 use Rattle.layout.specs.Write.{lay, encode, full}
 use Rattle.tx3g.specs.Tx3g as tx3g-is
 use Rattle.tx3g.specs.declared.Tx3g.{Tx3g}
-use Rattle.tx3g.specs.declared.Found.TheVariants as tx3g
 
 -- centred at the bottom (-1 is 0xff), a side of -2 (0xfffe), 16 points, white on black
 abbrev text : Tx3g
@@ -51,7 +51,7 @@ ftab = bytes 4 10 ++ bytes 4 0x66746162 ++ bytes 2 0
 abbrev fonts : List ℕ
 fonts = full 0x74783367 (body 0) ftab
 
-tx3g-read : tx3g-is.tx3g_of (fonts ++ bytes 1 7) ≡ tx3g.Is text
+tx3g-read : tx3g-is.tx3g_of (fonts ++ bytes 1 7) ≡ Ok text
 unfolding be bytes field when rule_of one decode
 tx3g-read = refl
 
@@ -66,12 +66,12 @@ unfolding be bytes field when rule_of one decode
 tx3g-no-rest = refl
 
 -- what is reserved is passed over
-tx3g-reserved : tx3g-is.tx3g_of (full 0x74783367 (body 0xffff_ffff_ffff) []) ≡ tx3g.Is text
+tx3g-reserved : tx3g-is.tx3g_of (full 0x74783367 (body 0xffff_ffff_ffff) []) ≡ Ok text
 unfolding be bytes field when rule_of one decode
 tx3g-reserved = refl
 
 -- a byte short: cut in the last field
-tx3g-cut : tx3g-is.tx3g_of (full 0x74783367 (bytes 6 0 ++ bytes 8 0 ++ bytes 8 0 ++ bytes 8 0 ++ bytes 7 0) []) ≡ tx3g.Refused (refusal 1 45)
+tx3g-cut : tx3g-is.tx3g_of (full 0x74783367 (bytes 6 0 ++ bytes 8 0 ++ bytes 8 0 ++ bytes 8 0 ++ bytes 7 0) []) ≡ Err (refusal.Cut 45)
 unfolding be bytes field when rule_of one decode
 tx3g-cut = refl
 
@@ -80,14 +80,14 @@ unfolding be bytes field when rule_of one decode
 tx3g-cut-rest = refl
 
 -- another type
-tx3g-other : tx3g-is.tx3g_of (full 0x74783368 (body 0) []) ≡ tx3g.Refused (refusal 8 4)
+tx3g-other : tx3g-is.tx3g_of (full 0x74783368 (body 0) []) ≡ Err (refusal.Value 4)
 unfolding be bytes field when rule_of one decode
 tx3g-other = refl
 
-tx3g-written : tx3g-is.tx3g_in text ftab (replicate 57 9) ≡ wrote (put.Done 56) (fonts ++ replicate 1 9)
+tx3g-written : tx3g-is.tx3g_in text ftab (replicate 57 9) ≡ wrote (Ok 56) (fonts ++ replicate 1 9)
 unfolding bytes when rule_of lay encode
 tx3g-written = refl
 
-tx3g-too-small : tx3g-is.tx3g_in text ftab (replicate 55 9) ≡ wrote (put.Refused (refusal 12 56)) (replicate 55 9)
+tx3g-too-small : tx3g-is.tx3g_in text ftab (replicate 55 9) ≡ wrote (Err (refusal.TooSmall 56)) (replicate 55 9)
 unfolding bytes when rule_of lay encode
 tx3g-too-small = refl

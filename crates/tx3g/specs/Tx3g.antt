@@ -1,15 +1,14 @@
 -- How timed text is shown (3GPP TS 26.245, 5.16): the text's place and its first style, and then boxes, the font
 -- table among them, to the box's end. The justifications and the four sides of the text's box are signed numbers there;
 -- they are kept as their raw bits, in two's complement. Assumes nothing.
-use Rattle.std.specs.Prelude.{ℕ, List, [], ◌∷◌, get_or}
+use Rattle.std.specs.Prelude.{ℕ, List, [], ◌∷◌, get_or, Result}
 use Rattle.put.specs.Put.{Wrote}
 use Rattle.layout.specs.Read.{read_of, answer, rest_of}
 use Rattle.layout.specs.Write.{write_of, padded, slotted}
 use Rattle.layout.specs.declared.Field.{Field}
 use Rattle.layout.specs.declared.Field.TheVariants.{Number, Reserved}
 use Rattle.tx3g.specs.declared.Tx3g.{Tx3g}
-use Rattle.tx3g.specs.declared.Found.{Found}
-use Rattle.tx3g.specs.declared.Found.TheVariants.{Is, Refused}
+use Rattle.numbers.specs.declared.Refusal.{Refusal}
 
 abbrev pub kind : ℕ
 kind = 0x74783367
@@ -28,8 +27,8 @@ from v = record { data_reference_index = get_or v 0 0; display_flags = get_or v 
 abbrev pub to : Tx3g → List ℕ
 to m = slotted (m.data_reference_index ∷ m.display_flags ∷ m.horizontal_justification ∷ m.vertical_justification ∷ m.background_red ∷ m.background_green ∷ m.background_blue ∷ m.background_alpha ∷ m.top ∷ m.left ∷ m.bottom ∷ m.right ∷ m.start_char ∷ m.end_char ∷ m.font_id ∷ m.face_style_flags ∷ m.font_size ∷ m.text_red ∷ m.text_green ∷ m.text_blue ∷ m.text_alpha ∷ [])
 
-abbrev pub tx3g_of : List ℕ → Found
-tx3g_of part = answer Is Refused from (read_of kind fields part)
+abbrev pub tx3g_of : List ℕ → Result Tx3g Refusal
+tx3g_of part = answer from (read_of kind fields part)
 
 abbrev pub boxes_of : List ℕ → List ℕ
 boxes_of part = rest_of (read_of kind fields part) part

@@ -1,4 +1,4 @@
-#![tactic(auto)]
+#![tactic(auto, unfolding(numbers::specs::Field::when, numbers::specs::Field::field))]
 // How timed text is shown (3GPP TS 26.245, 5.16): the text's place and its first style, and then boxes, the font
 // table among them, to the box's end. The justifications and the four sides of the text's box are signed numbers there;
 // they are kept as their raw bits, in two's complement.
@@ -33,12 +33,6 @@ pub struct Tx3g {
     pub text_alpha: u8,
 }
 
-#[derive(Clone, Copy)]
-pub enum Found {
-    Is(Tx3g),
-    Refused(Refusal),
-}
-
 pub const KIND: u32 = 0x74783367;
 
 pub const ROW: [Field; 24] = [
@@ -68,18 +62,12 @@ pub const ROW: [Field; 24] = [
     Field::Nothing,
 ];
 
-pub fn read(part: &[u8]) -> Found
+pub fn read(part: &[u8]) -> Result<Tx3g, Refusal>
     ensures { result ≡ tx3g_of part.now }
 {
-    let got = layout::read::by(part, KIND, ROW);
-    if got.number != 0 {
-        return Found::Refused(Refusal {
-            number: got.number,
-            detail: got.place,
-        });
-    }
+    let got = layout::read::by(part, KIND, ROW)?;
     let v = got.values;
-    Found::Is(Tx3g {
+    Ok(Tx3g {
         data_reference_index: v[0] as u16,
         display_flags: v[1] as u32,
         horizontal_justification: v[2] as u8,

@@ -4,10 +4,10 @@ ghost use Rattle.std.specs.Prelude.{◌≡◌};
 ghost use Rattle.put.specs.Put.{wrote};
 ghost use Rattle.tx3g.specs.Tx3g.{tx3g_in};
 
-use put::Put;
+use numbers::Refusal;
 use tx3g::{KIND, ROW, Tx3g};
 
-pub fn write(tx3g: Tx3g, rest: &[u8], out: &mut [u8]) -> Put
+pub fn write(tx3g: Tx3g, rest: &[u8], out: &mut [u8]) -> Result<usize, Refusal>
     ensures { wrote result out.new ≡ tx3g_in tx3g rest.now out.old }
 {
     let v = [

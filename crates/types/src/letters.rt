@@ -2,15 +2,13 @@
 ghost use Rattle.std.specs.Prelude.{◌≡◌};
 ghost use Rattle.numbers.specs.Number.{be, bytes};
 
-use numbers::U32;
-
 pub type Letters = [u8; 4];
 
 pub fn number_of(letters: Letters) -> u32
     ensures { result ≡ be 4 letters 0 }
 {
     // Four bytes are always all there.
-    let U32::Is(n) = numbers::u32_at(&letters, 0) else {
+    let Ok(n) = numbers::read::<u32>(&letters, 0) else {
         return 0;
     };
     n

@@ -1,4 +1,4 @@
-#![tactic(auto)]
+#![tactic(auto, unfolding(numbers::specs::Field::when, numbers::specs::Field::field))]
 // Where the media data of a track lie (ISO/IEC 14496-12, 8.7.2): flag 1 says in the same file; the location is the
 // rest of the box.
 ghost use Rattle.std.specs.Prelude.{◌≡◌};
@@ -7,18 +7,11 @@ ghost use Rattle.url_box.specs.Url.{url_of, location_of, url_in};
 
 use layout::Field;
 use numbers::Refusal;
-use put::Put;
 
 #[derive(Clone, Copy)]
 pub struct Url {
     pub version: u8,
     pub flags: u32,
-}
-
-#[derive(Clone, Copy)]
-pub enum Found {
-    Is(Url),
-    Refused(Refusal),
 }
 
 pub const KIND: u32 = 0x75726c20;
@@ -34,18 +27,12 @@ pub const ROW: [Field; 8] = [
     Field::Nothing,
 ];
 
-pub fn read(part: &[u8]) -> Found
+pub fn read(part: &[u8]) -> Result<Url, Refusal>
     ensures { result ≡ url_of part.now }
 {
-    let got = short::read::by(part, KIND, ROW);
-    if got.number != 0 {
-        return Found::Refused(Refusal {
-            number: got.number,
-            detail: got.place,
-        });
-    }
+    let got = short::read::by(part, KIND, ROW)?;
     let v = got.values;
-    Found::Is(Url {
+    Ok(Url {
         version: v[0] as u8,
         flags: v[1] as u32,
     })
@@ -58,7 +45,7 @@ pub fn location(part: &[u8]) -> &[u8]
     short::read::rest(part, KIND, ROW)
 }
 
-pub fn write(url: Url, location: &[u8], out: &mut [u8]) -> Put
+pub fn write(url: Url, location: &[u8], out: &mut [u8]) -> Result<usize, Refusal>
     ensures { wrote result out.new ≡ url_in url location.now out.old }
 {
     let v = [url.version as u64, url.flags as u64, 0, 0, 0, 0, 0, 0];

@@ -1,10 +1,8 @@
 -- The audit's findings, F1 to F8, with the track, sample, position and gap that each gives, 0 where it gives none (01,
 -- Audit findings; A32). A question of the audit passes, or finds. Assumes nothing.
-use Rattle.std.specs.Prelude.{ℕ, List, [], ◌∷◌, Bool, ℤ, pos}
+use Rattle.std.specs.Prelude.{ℕ, List, [], ◌∷◌, Bool, ℤ, pos, Option, Some, None}
 use Rattle.samples.specs.declared.Sample.{Sample}
 use Rattle.verdicts.specs.declared.Finding.{Finding}
-use Rattle.verdicts.specs.declared.Asked.{Asked}
-use Rattle.verdicts.specs.declared.Asked.TheVariants as told
 
 -- a track: its number, whether its tables' counts agree, and its samples, or those of its that are left
 pub data Track : Type 0 where
@@ -69,6 +67,6 @@ first_found (passes ∷ l) = first_found l
 first_found (found f ∷ l) = found f
 
 -- an answer as the code tells it
-abbrev pub asked : Answer → Asked
-asked passes = told.Passes
-asked (found f) = told.Found f
+abbrev pub asked : Answer → Option Finding
+asked passes = None
+asked (found f) = Some f

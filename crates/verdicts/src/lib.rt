@@ -1,4 +1,4 @@
-#![tactic(auto)]
+#![tactic(auto, unfolding(numbers::specs::Field::when, numbers::specs::Field::field))]
 // What an audit answers. What it means is in specs/, what clean means in specs/Meaning.antt; the walks over a file
 // promise equations with these definitions.
 use numbers::Refusal;
@@ -12,13 +12,6 @@ pub struct Finding {
     pub sample: u32,
     pub position: u64,
     pub gap: i64,
-}
-
-// What a question of the audit tells: it passes, or finds.
-#[derive(Clone, Copy)]
-pub enum Asked {
-    Passes,
-    Found(Finding),
 }
 
 // Clean tells how much it is about: so many tracks, samples and bytes of media data.

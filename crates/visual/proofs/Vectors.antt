@@ -1,18 +1,18 @@
 -- Worked examples of the definitions, computed. Assumes nothing.
+use Rattle.std.specs.Prelude.{Ok, Err}
 use mathlib.Core.Path.{◌≡◌, refl}
 use mathlib.Core.List.{List, [], ◌++◌}
 use Prim.Native.Nat.{ℕ}
 use lib.ListN.{replicate}
 use Rattle.numbers.specs.Number.{be, bytes}
-use Rattle.numbers.specs.Field.{refusal, field, when}
+use Rattle.numbers.specs.Field.{field, when}
+use Rattle.numbers.specs.declared.Refusal.TheVariants as refusal
 use Rattle.put.specs.Put.{wrote}
-use Rattle.put.specs.declared.Put.TheVariants as put
 use Rattle.layout.specs.Rule.{rule_of}
 use Rattle.layout.specs.Read.{one, decode}
 use Rattle.layout.specs.Write.{lay, encode, full}
 use Rattle.visual.specs.Visual as visual-is
 use Rattle.visual.specs.declared.Visual.{Visual}
-use Rattle.visual.specs.declared.Found.TheVariants as visual
 
 -- 320 by 240, 72 dots an inch, a name of two letters behind its length
 abbrev small : Visual
@@ -47,12 +47,12 @@ l = 0x76703039
 abbrev child : List ℕ
 child = bytes 8 0x8_6176_6343
 
-visual-read : visual-is.visual_of k (full k (body 0 0xffff) child ++ bytes 1 7) ≡ visual.Is small
+visual-read : visual-is.visual_of k (full k (body 0 0xffff) child ++ bytes 1 7) ≡ Ok small
 unfolding be bytes field when rule_of one decode
 visual-read = refl
 
 -- the same of any kind
-visual-read-l : visual-is.visual_of l (full l (body 0 0xffff) child) ≡ visual.Is small
+visual-read-l : visual-is.visual_of l (full l (body 0 0xffff) child) ≡ Ok small
 unfolding be bytes field when rule_of one decode
 visual-read-l = refl
 
@@ -67,12 +67,12 @@ unfolding be bytes field when rule_of one decode
 visual-bare = refl
 
 -- what is predefined or reserved is passed over
-visual-reserved : visual-is.visual_of k (full k (body 9 9) []) ≡ visual.Is small
+visual-reserved : visual-is.visual_of k (full k (body 9 9) []) ≡ Ok small
 unfolding be bytes field when rule_of one decode
 visual-reserved = refl
 
 -- another kind than was asked for
-visual-other : visual-is.visual_of l (full k (body 0 0xffff) child) ≡ visual.Refused (refusal 8 4)
+visual-other : visual-is.visual_of l (full k (body 0 0xffff) child) ≡ Err (refusal.Value 4)
 unfolding be bytes field when rule_of one decode
 visual-other = refl
 
@@ -81,14 +81,14 @@ unfolding be bytes field when rule_of one decode
 visual-other-children = refl
 
 -- a byte short: cut in the last field
-visual-cut : visual-is.visual_of k (full k (replicate 77 0) []) ≡ visual.Refused (refusal 1 84)
+visual-cut : visual-is.visual_of k (full k (replicate 77 0) []) ≡ Err (refusal.Cut 84)
 unfolding be bytes field when rule_of one decode
 visual-cut = refl
 
-visual-written : visual-is.visual_in k small child (replicate 95 9) ≡ wrote (put.Done 94) (full k (body 0 0xffff) child ++ replicate 1 9)
+visual-written : visual-is.visual_in k small child (replicate 95 9) ≡ wrote (Ok 94) (full k (body 0 0xffff) child ++ replicate 1 9)
 unfolding bytes when rule_of lay encode
 visual-written = refl
 
-visual-too-small : visual-is.visual_in k small child (replicate 93 9) ≡ wrote (put.Refused (refusal 12 94)) (replicate 93 9)
+visual-too-small : visual-is.visual_in k small child (replicate 93 9) ≡ wrote (Err (refusal.TooSmall 94)) (replicate 93 9)
 unfolding bytes when rule_of lay encode
 visual-too-small = refl

@@ -1,4 +1,4 @@
-#![tactic(auto)]
+#![tactic(auto, unfolding(numbers::specs::Field::when, numbers::specs::Field::field))]
 // A sample entry of a visual track, of any kind (ISO/IEC 14496-12, 12.1.3): which data reference its samples are in, the
 // size of the picture, its resolutions as raw 16.16, how many frames a sample has, the 32 bytes of the compressor's name as
 // four numbers, and the depth. Behind them its boxes, to the entry's end. What is predefined or reserved is passed over.
@@ -21,12 +21,6 @@ pub struct Visual {
     pub name2: u64,
     pub name3: u64,
     pub depth: u16,
-}
-
-#[derive(Clone, Copy)]
-pub enum Found {
-    Is(Visual),
-    Refused(Refusal),
 }
 
 pub const ROW: [Field; 24] = [
@@ -56,18 +50,12 @@ pub const ROW: [Field; 24] = [
     Field::Nothing,
 ];
 
-pub fn read(part: &[u8], kind: u32) -> Found
+pub fn read(part: &[u8], kind: u32) -> Result<Visual, Refusal>
     ensures { result ≡ visual_of kind part.now }
 {
-    let got = layout::read::by(part, kind, ROW);
-    if got.number != 0 {
-        return Found::Refused(Refusal {
-            number: got.number,
-            detail: got.place,
-        });
-    }
+    let got = layout::read::by(part, kind, ROW)?;
     let v = got.values;
-    Found::Is(Visual {
+    Ok(Visual {
         data_reference_index: v[0] as u16,
         width: v[1] as u16,
         height: v[2] as u16,

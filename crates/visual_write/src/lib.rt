@@ -4,10 +4,10 @@ ghost use Rattle.std.specs.Prelude.{◌≡◌};
 ghost use Rattle.put.specs.Put.{wrote};
 ghost use Rattle.visual.specs.Visual.{visual_in};
 
-use put::Put;
+use numbers::Refusal;
 use visual::{ROW, Visual};
 
-pub fn write(visual: Visual, kind: u32, children: &[u8], out: &mut [u8]) -> Put
+pub fn write(visual: Visual, kind: u32, children: &[u8], out: &mut [u8]) -> Result<usize, Refusal>
     ensures { wrote result out.new ≡ visual_in kind visual children.now out.old }
 {
     let v = [

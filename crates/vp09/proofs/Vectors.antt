@@ -1,17 +1,17 @@
 -- Worked examples of the definitions, computed. Assumes nothing.
+use Rattle.std.specs.Prelude.{Ok, Err}
 use mathlib.Core.Path.{◌≡◌, refl}
 use mathlib.Core.List.{List, [], ◌∷◌, ◌++◌}
 use Prim.Native.Nat.{ℕ}
 use lib.ListN.{replicate}
 use Rattle.numbers.specs.Number.{be, bytes}
-use Rattle.numbers.specs.Field.{refusal, field, when}
+use Rattle.numbers.specs.Field.{field, when}
+use Rattle.numbers.specs.declared.Refusal.TheVariants as refusal
 use Rattle.put.specs.Put.{wrote}
-use Rattle.put.specs.declared.Put.TheVariants as put
 use Rattle.layout.specs.Rule.{rule_of}
 use Rattle.layout.specs.Read.{one, decode}
 use Rattle.layout.specs.Write.{lay, encode, full}
 use Rattle.visual.specs.declared.Visual.{Visual}
-use Rattle.visual.specs.declared.Found.TheVariants as visual
 use Rattle.children.specs.Children.{row_of, first_in}
 use Rattle.children.proofs.Example.{of}
 use Rattle.vp09.specs.Vp09 as vp09-is
@@ -42,12 +42,12 @@ config = of 0x76706343 (5 ∷ [])
 abbrev other : List ℕ
 other = of 0x70617370 (1 ∷ 2 ∷ [])
 
-vp09-read : vp09-is.vp09_of (full 0x76703039 body config) ≡ visual.Is small
+vp09-read : vp09-is.vp09_of (full 0x76703039 body config) ≡ Ok small
 unfolding be bytes field when rule_of one decode
 vp09-read = refl
 
 -- an entry of another kind
-vp09-other : vp09-is.vp09_of (full 0x76703038 body config) ≡ visual.Refused (refusal 8 4)
+vp09-other : vp09-is.vp09_of (full 0x76703038 body config) ≡ Err (refusal.Value 4)
 unfolding be bytes field when rule_of one decode
 vp09-other = refl
 
@@ -65,14 +65,14 @@ vp09-no-vpcc : vp09-is.vpcc_of (full 0x76703039 body other) ≡ []
 unfolding be bytes field when rule_of one decode row_of first_in
 vp09-no-vpcc = refl
 
-vp09-cut : vp09-is.vp09_of (full 0x76703039 (replicate 77 0) []) ≡ visual.Refused (refusal 1 84)
+vp09-cut : vp09-is.vp09_of (full 0x76703039 (replicate 77 0) []) ≡ Err (refusal.Cut 84)
 unfolding be bytes field when rule_of one decode
 vp09-cut = refl
 
-vp09-written : vp09-is.vp09_in small config (replicate 96 9) ≡ wrote (put.Done 95) (full 0x76703039 body config ++ replicate 1 9)
+vp09-written : vp09-is.vp09_in small config (replicate 96 9) ≡ wrote (Ok 95) (full 0x76703039 body config ++ replicate 1 9)
 unfolding bytes when rule_of lay encode
 vp09-written = refl
 
-vp09-too-small : vp09-is.vp09_in small config (replicate 94 9) ≡ wrote (put.Refused (refusal 12 95)) (replicate 94 9)
+vp09-too-small : vp09-is.vp09_in small config (replicate 94 9) ≡ wrote (Err (refusal.TooSmall 95)) (replicate 94 9)
 unfolding bytes when rule_of lay encode
 vp09-too-small = refl

@@ -1,12 +1,13 @@
 -- Worked examples of the definitions, computed. Assumes nothing.
+use Rattle.std.specs.Prelude.{Ok, Err}
 use mathlib.Core.Path.{◌≡◌, refl}
 use mathlib.Core.List.{List, [], ◌∷◌, ◌++◌}
 use Prim.Native.Nat.{ℕ}
 use lib.ListN.{replicate}
 use Rattle.numbers.specs.Number.{be, bytes}
-use Rattle.numbers.specs.Field.{refusal, field, when}
+use Rattle.numbers.specs.Field.{field, when}
+use Rattle.numbers.specs.declared.Refusal.TheVariants as refusal
 use Rattle.put.specs.Put.{wrote}
-use Rattle.put.specs.declared.Put.TheVariants as put
 use Rattle.layout.specs.Rule.{rule_of}
 use Rattle.layout.specs.Read.{one, decode}
 use Rattle.layout.specs.Write.{lay, encode}
@@ -14,7 +15,6 @@ use Rattle.layout.specs.Table.{cut_of}
 use Rattle.rounds.proofs.Example.{box}
 use Rattle.vpcc.specs.Vpcc as vpcc-is
 use Rattle.vpcc.specs.declared.Vpcc.{Vpcc}
-use Rattle.vpcc.specs.declared.Found.TheVariants as vpcc
 
 -- profile 2, level 3.1, 10 bits, 4:2:0, full range, colours 9, 16 and 8; n bytes to begin with
 abbrev hdr : ℕ → Vpcc
@@ -36,7 +36,7 @@ plain = box 0x76706343 1 0 (bytes 8 0x021fa3_091008_0000)
 abbrev with_two : List ℕ
 with_two = box 0x76706343 1 0 (bytes 8 0x021fa3_091008_0002 ++ bytes 2 0x0506)
 
-vpcc-read : vpcc-is.vpcc_of (plain ++ bytes 1 7) ≡ vpcc.Is (hdr 0) 20
+vpcc-read : vpcc-is.vpcc_of (plain ++ bytes 1 7) ≡ Ok (hdr 0, 20)
 unfolding be bytes field when rule_of one decode cut_of
 vpcc-read = refl
 
@@ -44,7 +44,7 @@ vpcc-no-initial : vpcc-is.initialization_of (plain ++ bytes 1 7) ≡ []
 unfolding be bytes field when rule_of one decode cut_of
 vpcc-no-initial = refl
 
-vpcc-read-two : vpcc-is.vpcc_of (with_two ++ bytes 1 7) ≡ vpcc.Is (hdr 2) 20
+vpcc-read-two : vpcc-is.vpcc_of (with_two ++ bytes 1 7) ≡ Ok (hdr 2, 20)
 unfolding be bytes field when rule_of one decode cut_of
 vpcc-read-two = refl
 
@@ -53,7 +53,7 @@ unfolding be bytes field when rule_of one decode cut_of
 vpcc-initial = refl
 
 -- the first byte that is not there is told, though the lent bytes go on
-vpcc-initial-cut : vpcc-is.vpcc_of (box 0x76706343 1 0 (bytes 8 0x021fa3_091008_0003 ++ bytes 2 0x0506) ++ bytes 1 7) ≡ vpcc.Refused (refusal 1 22)
+vpcc-initial-cut : vpcc-is.vpcc_of (box 0x76706343 1 0 (bytes 8 0x021fa3_091008_0003 ++ bytes 2 0x0506) ++ bytes 1 7) ≡ Err (refusal.Cut 22)
 unfolding be bytes field when rule_of one decode cut_of
 vpcc-initial-cut = refl
 
@@ -62,31 +62,31 @@ unfolding be bytes field when rule_of one decode cut_of
 vpcc-initial-cut-none = refl
 
 -- version 1 alone
-vpcc-version-0 : vpcc-is.vpcc_of (box 0x76706343 0 0 (bytes 8 0x021fa3_091008_0000)) ≡ vpcc.Refused (refusal 7 8)
+vpcc-version-0 : vpcc-is.vpcc_of (box 0x76706343 0 0 (bytes 8 0x021fa3_091008_0000)) ≡ Err (refusal.Version 8)
 unfolding be bytes field when rule_of one decode cut_of
 vpcc-version-0 = refl
 
-vpcc-version-2 : vpcc-is.vpcc_of (box 0x76706343 2 0 (bytes 8 0x021fa3_091008_0000)) ≡ vpcc.Refused (refusal 7 8)
+vpcc-version-2 : vpcc-is.vpcc_of (box 0x76706343 2 0 (bytes 8 0x021fa3_091008_0000)) ≡ Err (refusal.Version 8)
 unfolding be bytes field when rule_of one decode cut_of
 vpcc-version-2 = refl
 
-vpcc-cut : vpcc-is.vpcc_of (box 0x76706343 1 0 (bytes 7 0x021fa3_091008_00)) ≡ vpcc.Refused (refusal 1 18)
+vpcc-cut : vpcc-is.vpcc_of (box 0x76706343 1 0 (bytes 7 0x021fa3_091008_00)) ≡ Err (refusal.Cut 18)
 unfolding be bytes field when rule_of one decode cut_of
 vpcc-cut = refl
 
-vpcc-other : vpcc-is.vpcc_of (box 0x76706344 1 0 (bytes 8 0)) ≡ vpcc.Refused (refusal 8 4)
+vpcc-other : vpcc-is.vpcc_of (box 0x76706344 1 0 (bytes 8 0)) ≡ Err (refusal.Value 4)
 unfolding be bytes field when rule_of one decode cut_of
 vpcc-other = refl
 
-vpcc-written : vpcc-is.vpcc_in (hdr 2) (5 ∷ 6 ∷ []) (replicate 23 9) ≡ wrote (put.Done 22) (with_two ++ replicate 1 9)
+vpcc-written : vpcc-is.vpcc_in (hdr 2) (5 ∷ 6 ∷ []) (replicate 23 9) ≡ wrote (Ok 22) (with_two ++ replicate 1 9)
 unfolding bytes when rule_of lay encode
 vpcc-written = refl
 
-vpcc-too-small : vpcc-is.vpcc_in (hdr 2) (5 ∷ 6 ∷ []) (replicate 21 9) ≡ wrote (put.Refused (refusal 12 22)) (replicate 21 9)
+vpcc-too-small : vpcc-is.vpcc_in (hdr 2) (5 ∷ 6 ∷ []) (replicate 21 9) ≡ wrote (Err (refusal.TooSmall 22)) (replicate 21 9)
 unfolding bytes when rule_of lay encode
 vpcc-too-small = refl
 
 -- as many bytes as the size says
-vpcc-fewer : vpcc-is.vpcc_in (hdr 2) (5 ∷ []) (replicate 23 9) ≡ wrote (put.Refused (refusal 13 0)) (replicate 23 9)
+vpcc-fewer : vpcc-is.vpcc_in (hdr 2) (5 ∷ []) (replicate 23 9) ≡ wrote (Err refusal.Unwritable) (replicate 23 9)
 unfolding bytes when rule_of lay encode
 vpcc-fewer = refl

@@ -1,7 +1,7 @@
 -- How a VP8 or VP9 track is coded (VP Codec ISO Media File Format Binding, 'vpcC', version 1): profile, level, bit depth,
 -- chroma subsampling and range in one byte, three codes of its colours, and the data that the codec begins with: a size in
 -- bytes, and as many bytes. Assumes nothing.
-use Rattle.std.specs.Prelude.{ℕ, ◌*◌, List, [], ◌∷◌, get_or}
+use Rattle.std.specs.Prelude.{ℕ, ◌*◌, List, [], ◌∷◌, get_or, Result, Ok, Err}
 use Rattle.put.specs.Put.{Wrote}
 use Rattle.parts.specs.Parts.{part_of}
 use Rattle.layout.specs.Read.{read_of}
@@ -10,8 +10,7 @@ use Rattle.layout.specs.Table.{tabled, write_table}
 use Rattle.layout.specs.declared.Field.{Field}
 use Rattle.layout.specs.declared.Field.TheVariants.{Number, Version, Flags}
 use Rattle.vpcc.specs.declared.Vpcc.{Vpcc}
-use Rattle.vpcc.specs.declared.Found.{Found}
-use Rattle.vpcc.specs.declared.Found.TheVariants.{Is, Refused}
+use Rattle.numbers.specs.declared.Refusal.{Refusal}
 
 abbrev pub kind : ℕ
 kind = 0x76706343
@@ -30,16 +29,16 @@ to m = slotted (m.version ∷ m.flags ∷ m.profile ∷ m.level ∷ m.sampling �
 abbrev pub cells : Vpcc → ℕ
 cells m = m.codec_initialization_data_size
 
-abbrev pub vpcc_of : List ℕ → Found
-vpcc_of part = tabled Is Refused from cells 1 part (read_of kind fields part)
+abbrev pub vpcc_of : List ℕ → Result (Vpcc × ℕ) Refusal
+vpcc_of part = tabled from cells 1 part (read_of kind fields part)
 
 abbrev pub vpcc_in : Vpcc → List ℕ → List ℕ → Wrote
 vpcc_in m initialization out = write_table kind fields (to m) (cells m * 1) initialization out
 
 -- the initialization data, of a box that is read
-abbrev pub within : List ℕ → Found → List ℕ
-within part (Is m place) = part_of place (cells m) part
-within part (Refused q) = []
+abbrev pub within : List ℕ → Result (Vpcc × ℕ) Refusal → List ℕ
+within part (Ok (m, place)) = part_of place (cells m) part
+within part (Err q) = []
 
 abbrev pub initialization_of : List ℕ → List ℕ
 initialization_of part = within part (vpcc_of part)

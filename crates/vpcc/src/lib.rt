@@ -1,4 +1,4 @@
-#![tactic(auto)]
+#![tactic(auto, unfolding(numbers::specs::Field::when, numbers::specs::Field::field))]
 // How a VP8 or VP9 track is coded (VP Codec ISO Media File Format Binding, 'vpcC', version 1): profile, level, bit depth,
 // chroma subsampling and range in one byte, three codes of its colours, and the data that the codec begins with: a size in
 // bytes, and as many bytes.
@@ -6,7 +6,6 @@ ghost use Rattle.std.specs.Prelude.{◌≡◌};
 ghost use Rattle.vpcc.specs.Vpcc.{vpcc_of, initialization_of};
 
 use layout::Field;
-use layout::table::Cut;
 use numbers::Refusal;
 
 #[derive(Clone, Copy)]
@@ -20,13 +19,6 @@ pub struct Vpcc {
     pub transfer_characteristics: u8,
     pub matrix_coefficients: u8,
     pub codec_initialization_data_size: u16,
-}
-
-// The box, and where the initialization data begin.
-#[derive(Clone, Copy)]
-pub enum Found {
-    Is(Vpcc, usize),
-    Refused(Refusal),
 }
 
 pub const KIND: u32 = 0x76706343;
@@ -58,16 +50,11 @@ pub const ROW: [Field; 24] = [
     Field::Nothing,
 ];
 
-pub fn read(part: &[u8]) -> Found
+// The box, and where the initialization data begin.
+pub fn read(part: &[u8]) -> Result<(Vpcc, usize), Refusal>
     ensures { result ≡ vpcc_of part.now }
 {
-    let got = layout::read::by(part, KIND, ROW);
-    if got.number != 0 {
-        return Found::Refused(Refusal {
-            number: got.number,
-            detail: got.place,
-        });
-    }
+    let got = layout::read::by(part, KIND, ROW)?;
     let v = got.values;
     let place = got.place;
     let end = got.end;
@@ -85,11 +72,8 @@ pub fn read(part: &[u8]) -> Found
     let cells = v[8];
     let cut = layout::table::first_cut(&part[..end], place, cells, 1);
     match cut {
-        Cut::Whole => Found::Is(vpcc, place),
-        Cut::At(p) => Found::Refused(Refusal {
-            number: 1,
-            detail: p,
-        }),
+        None => Ok((vpcc, place)),
+        Some(p) => Err(Refusal::Cut(p)),
     }
 }
 
@@ -98,10 +82,10 @@ pub fn initialization(part: &[u8]) -> &[u8]
     ensures { result.now ≡ initialization_of part.now }
 {
     match read(part) {
-        Found::Is(vpcc, place) => {
+        Ok((vpcc, place)) => {
             let size = vpcc.codec_initialization_data_size as usize;
             parts::part(part, place, size)
         }
-        Found::Refused(_) => &part[..0],
+        Err(_) => &part[..0],
     }
 }

@@ -1,23 +1,19 @@
-#![tactic(auto)]
+#![tactic(auto, unfolding(numbers::specs::Field::when, numbers::specs::Field::field))]
 // The writer of vpcC, how a VP8 or VP9 track is coded (`vpcc`).
 ghost use Rattle.std.specs.Prelude.{◌≡◌};
 ghost use Rattle.put.specs.Put.{wrote};
 ghost use Rattle.vpcc.specs.Vpcc.{vpcc_in};
 
 use numbers::Refusal;
-use put::Put;
 use vpcc::{KIND, ROW, Vpcc};
 
-// 13 where the initialization data are not as many as their size says.
-pub fn write(vpcc: Vpcc, initialization: &[u8], out: &mut [u8]) -> Put
+// Unwritable where the initialization data are not as many as their size says.
+pub fn write(vpcc: Vpcc, initialization: &[u8], out: &mut [u8]) -> Result<usize, Refusal>
     ensures { wrote result out.new ≡ vpcc_in vpcc initialization.now out.old }
 {
     let size = vpcc.codec_initialization_data_size as u64;
     if initialization.len() as u64 != size {
-        return Put::Refused(Refusal {
-            number: 13,
-            detail: 0,
-        });
+        return Err(Refusal::Unwritable);
     }
     let v = [
         vpcc.version as u64,

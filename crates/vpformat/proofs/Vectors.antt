@@ -1,8 +1,9 @@
 -- Worked examples of the definitions, computed. Assumes nothing.
+use Rattle.std.specs.Prelude.{Ok, Err}
 use mathlib.Core.Path.{◌≡◌, refl}
 use mathlib.Core.Bool.{true, false}
-use Rattle.numbers.specs.Field.{refusal, when}
-use Rattle.numbers.specs.declared.U8.TheVariants as byte
+use Rattle.numbers.specs.Field.{when}
+use Rattle.numbers.specs.declared.Refusal.TheVariants as refusal
 use Rattle.vpformat.specs.Sampling.{depth_of, chroma_of, full_of, sampling_of}
 
 -- the three numbers in a byte, and both sides of each limit
@@ -18,18 +19,18 @@ full = refl
 narrow : full_of 0xa2 ≡ false
 narrow = refl
 
-together : sampling_of 10 1 true ≡ byte.Is 0xa3
+together : sampling_of 10 1 true ≡ Ok 0xa3
 unfolding when
 together = refl
 
-most : sampling_of 15 7 true ≡ byte.Is 255
+most : sampling_of 15 7 true ≡ Ok 255
 unfolding when
 most = refl
 
-too-deep : sampling_of 16 0 false ≡ byte.Refused (refusal 13 0)
+too-deep : sampling_of 16 0 false ≡ Err refusal.Unwritable
 unfolding when
 too-deep = refl
 
-too_fine : sampling_of 8 8 false ≡ byte.Refused (refusal 13 0)
+too_fine : sampling_of 8 8 false ≡ Err refusal.Unwritable
 unfolding when
 too_fine = refl

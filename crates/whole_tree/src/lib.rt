@@ -1,4 +1,4 @@
-#![tactic(auto)]
+#![tactic(auto, unfolding(numbers::specs::Field::when, numbers::specs::Field::field))]
 // The tree of a file's boxes (`tree`) where all of it is told, and none of it where the file has a fault.
 ghost use Rattle.std.specs.Prelude.{◌≡◌, ◌≤◌, length, take};
 ghost use Rattle.std.proofs.lemmas.List.Edits.{sets};
@@ -6,7 +6,8 @@ ghost use Rattle.places.specs.Visit.{box_limit};
 ghost use Rattle.tree.specs.Walk.{tree_of};
 ghost use Rattle.tree.specs.Tables.{tables, out, all_of};
 
-use tree::{Answer, Scanned};
+use numbers::Refusal;
+use tree::Scanned;
 
 // The first n numbers of a table, into another.
 fn copy(n: usize, from: &[usize; 4096], to: &mut [usize; 4096])
@@ -29,7 +30,7 @@ pub fn tree(
     parents: &mut [usize; 4096],
     depths: &mut [usize; 4096],
     placed: &mut [usize; 4096],
-) -> Answer
+) -> Result<usize, Refusal>
     ensures { out result (tables starts.new sizes.new kinds.new parents.new depths.new placed.new)
         ≡ all_of (tables starts.old sizes.old kinds.old parents.old depths.old placed.old) (tree_of s.now) }
 {
@@ -40,7 +41,7 @@ pub fn tree(
     let mut d = [0usize; 4096];
     let mut l = [0usize; 4096];
     match tree::scan(s, &mut a, &mut b, &mut k, &mut p, &mut d, &mut l) {
-        Scanned::Fault(_, q) => Answer::Refused(q),
+        Scanned::Fault(_, q) => Err(q),
         Scanned::Whole(n) => {
             copy(n, &a, starts);
             copy(n, &b, sizes);
@@ -48,7 +49,7 @@ pub fn tree(
             copy(n, &p, parents);
             copy(n, &d, depths);
             copy(n, &l, placed);
-            Answer::Done(n)
+            Ok(n)
         }
     }
 }

@@ -1,12 +1,13 @@
 -- Worked examples: verdicts in words, and what is told of a file without a byte. Assumes nothing.
+use Rattle.std.specs.Prelude.{Ok, Err}
 use Prim.Native.Nat.{ℕ}
 use mathlib.Core.Path.{◌≡◌, refl}
 use mathlib.Core.List.{List, [], ◌∷◌}
 use lib.IntN.{negsuc}
 use lib.ListN.{replicate}
-use Rattle.numbers.specs.Field.{refusal, when}
+use Rattle.numbers.specs.Field.{when}
+use Rattle.numbers.specs.declared.Refusal.TheVariants as refusal
 use Rattle.samples.specs.Records.{output}
-use Rattle.samples.specs.declared.Listed.TheVariants as listed
 use Rattle.places.specs.Kinds.{ftyp}
 use Rattle.tree.specs.Walk.{siblings, kids_of}
 use Rattle.tree.specs.Tables.{puts}
@@ -37,14 +38,14 @@ unfolding in_words when
 case-no-room = refl
 
 -- a refusal goes before the 12
-case-refused : verdict_says (Refused (refusal 1 48)) [] ≡ said 1 48 []
+case-refused : verdict_says (Refused (refusal.Cut 48)) [] ≡ said 1 48 []
 case-refused = refl
 
 -- one record
-case-told : output_says (output (listed.Done 1) (1 ∷ 48 ∷ 10 ∷ 0 ∷ 1000 ∷ 0 ∷ 1 ∷ [])) ≡ said 0 1 (1 ∷ 48 ∷ 10 ∷ 0 ∷ 1000 ∷ 0 ∷ 1 ∷ [])
+case-told : output_says (output (Ok 1) (1 ∷ 48 ∷ 10 ∷ 0 ∷ 1000 ∷ 0 ∷ 1 ∷ [])) ≡ said 0 1 (1 ∷ 48 ∷ 10 ∷ 0 ∷ 1000 ∷ 0 ∷ 1 ∷ [])
 case-told = refl
 
-case-not-told : output_says (output (listed.Refused (refusal 11 5)) []) ≡ said 11 5 []
+case-not-told : output_says (output (Err (refusal.NoSample 5)) []) ≡ said 11 5 []
 case-not-told = refl
 
 -- A FILE WITHOUT A BYTE: its ftyp is missing, whatever is asked

@@ -1,17 +1,17 @@
 -- What a caller in another language is told: the number of the answer (0, or the refusal's), what document 01 returns
 -- beside it ("Also returned"), and the lent words as they are left. Assumes nothing.
-use Rattle.std.specs.Prelude.{ℕ, List, [], ◌∷◌, length, leb}
+use Rattle.std.specs.Prelude.{ℕ, List, [], ◌∷◌, length, leb, Result, Ok, Err}
 use Rattle.std.proofs.lemmas.List.Edits.{sets}
 use Rattle.numbers.specs.Field.{when}
+use Rattle.numbers.specs.Refusals.{code, detail}
 use Rattle.samples.specs.Records.{bits_of, Output, output}
-use Rattle.samples.specs.declared.Listed.{Listed}
-use Rattle.samples.specs.declared.Listed.TheVariants as listed
 use Rattle.verdicts.specs.declared.Audited.{Audited}
 use Rattle.verdicts.specs.declared.Audited.TheVariants.{Clean, Found, Refused}
 use Rattle.audit.specs.File.{audit_file}
 use Rattle.opened.specs.Opened.{tell_of}
 use Rattle.opened.specs.declared.Question.TheVariants as question
 use Rattle.witness.specs.declared.Answer.{Answer}
+use Rattle.numbers.specs.declared.Refusal.{Refusal}
 
 pub data Said : Type 0 where
   said : ℕ → ℕ → List ℕ → Said
@@ -32,7 +32,7 @@ four_say also a b c d o = in_words (a ∷ b ∷ c ∷ d ∷ []) also o
 abbrev pub verdict_says : Audited → List ℕ → Said
 verdict_says (Clean tracks samples media) o = four_say 0 tracks samples media 0 o
 verdict_says (Found g) o = four_say g.number g.track g.sample g.position (bits_of g.gap) o
-verdict_says (Refused q) o = said q.number q.detail o
+verdict_says (Refused q) o = said (code q) (detail q) o
 
 abbrev pub audit_says : List ℕ → List ℕ → Said
 audit_says f o = verdict_says (audit_file f) o
@@ -40,9 +40,9 @@ audit_says f o = verdict_says (audit_file f) o
 -- ONE TRACK
 
 -- beside the words: how many records or words they are, or the refusal's detail
-abbrev pub answer_by : Listed → Answer
-answer_by (listed.Done n) = record { number = 0; also = n }
-answer_by (listed.Refused q) = record { number = q.number; also = q.detail }
+abbrev pub answer_by : Result ℕ Refusal → Answer
+answer_by (Ok n) = record { number = 0; also = n }
+answer_by (Err q) = record { number = code q; also = detail q }
 
 abbrev pub output_says : Output → Said
 output_says (output l o) = answered (answer_by l) o

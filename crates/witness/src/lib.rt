@@ -1,12 +1,12 @@
-#![tactic(auto)]
+#![tactic(auto, unfolding(numbers::specs::Field::when, numbers::specs::Field::field))]
 // The functions that a program in Rust or C calls, each on a lent file and on lent words. The number of the answer is
 // returned; `also` is what document 01 has returned beside it, and is written with every answer.
 ghost use Rattle.std.specs.Prelude.{◌≡◌, []};
 ghost use Rattle.samples.specs.Records.{bits_of};
 ghost use Rattle.witness.specs.Says.{said, answered, four_say, verdict_says, audit_says, answer_by, track_says, list_says, sample_says, summary_says};
 
+use numbers::Refusal;
 use opened::Question;
-use samples::Listed;
 use verdicts::Audited;
 
 #[derive(Clone, Copy)]
@@ -66,8 +66,8 @@ fn say_verdict(audited: Audited, out: &mut [u64]) -> Answer
             )
         }
         Audited::Refused(q) => Answer {
-            number: q.number,
-            also: q.detail as u64,
+            number: q.code(),
+            also: q.detail() as u64,
         },
     }
 }
@@ -85,17 +85,17 @@ pub extern "C" fn framewitness_audit(file: &[u8], out: &mut [u64], also: &mut u6
 }
 
 // How many records or words were written, or the refusal.
-fn say_listed(listed: Listed) -> Answer
+fn say_listed(listed: Result<usize, Refusal>) -> Answer
     ensures { result ≡ answer_by listed }
 {
     match listed {
-        Listed::Done(n) => Answer {
+        Ok(n) => Answer {
             number: 0,
             also: n as u64,
         },
-        Listed::Refused(why) => Answer {
-            number: why.number,
-            also: why.detail as u64,
+        Err(why) => Answer {
+            number: why.code(),
+            also: why.detail() as u64,
         },
     }
 }

@@ -1,5 +1,6 @@
 -- The laws of numbers in the file: the position that is looked at, and the signed number that 32 bits stand for.
 -- Assumes nothing.
+use Rattle.std.specs.Prelude.{Result, Ok, Err}
 use mathlib.Core.Path.{◌≡◌, refl, sym, ap, ap₂, ◌∙◌}
 use mathlib.Core.List.{List}
 use mathlib.Core.Bool.{cond}
@@ -16,7 +17,7 @@ use borrow.Author.Tests.{lt-ltb, le-ltb}
 use Rattle.numbers.specs.Number.{be}
 use Rattle.numbers.specs.Field.{field, or_zero}
 use Rattle.numbers.specs.declared.Refusal.{Refusal}
-use Rattle.numbers.proofs.Chain.{Reader, there, lacks, whole, ends, is_lt, not-lt}
+use Rattle.numbers.proofs.Chain.{there, lacks, whole, ends, is_lt, not-lt}
 use Rattle.signed.specs.Signed.{signed}
 
 -- a number is the same in the part of the file from `at` on
@@ -30,21 +31,21 @@ module _ (w : ℕ) (f : List ℕ) (at past : ℕ) where
   pub word-past : 0 < w → length f < at → 0 ≡ or_zero w f (at + past)
   word-past h k = ends w f (at + past) (λ q. 0) (λ k. k) 0 (omega arith) refl
 
-  module _ {U : Type 0} (b : Reader U) (u : U) (p : List ℕ) (h : at ≤ length f) (ep : p ≡ take (length f - at) (drop at f))
-      (e : u ≡ field b.refused w p past b.is) where
+  module _ (u : Result ℕ Refusal) (p : List ℕ) (h : at ≤ length f) (ep : p ≡ take (length f - at) (drop at f))
+      (e : u ≡ field Err w p past Ok) where
     part : p ≡ drop at f
     part = ep ∙ take_all (length f - at) (drop at f) (omega (arith, length-drop at f))
 
     long : length p ≡ length f - at
     long = ap length part ∙ length-drop at f
 
-    pub word-is : (n : ℕ) → u ≡ b.is n → n ≡ or_zero w f (at + past)
+    pub word-is : (n : ℕ) → u ≡ Ok n → n ≡ or_zero w f (at + past)
     word-is n g =
-        let t = there b w p past u e n g in
+        let t = there w p past u e n g in
         whole w f (at + past) (λ q. 0) (λ k. k) n n (omega (arith, t.0, long)) (t.1 ∙ ap (λ (l : List ℕ). be w l past) part ∙ be-drop w at f past) refl
 
-    pub word-not : (q : Refusal) → u ≡ b.refused q → 0 ≡ or_zero w f (at + past)
-    word-not q g = ends w f (at + past) (λ q. 0) (λ k. k) 0 (omega (arith, lacks b w p past u e q g, long)) refl
+    pub word-not : (q : Refusal) → u ≡ Err q → 0 ≡ or_zero w f (at + past)
+    word-not q g = ends w f (at + past) (λ q. 0) (λ k. k) 0 (omega (arith, lacks w p past u e q g, long)) refl
 
 -- SIGNED
 

@@ -1,10 +1,8 @@
-#![tactic(auto)]
+#![tactic(auto, unfolding(numbers::specs::Field::when, numbers::specs::Field::field))]
 // Numbers that lie in a file, wherever a table says: a number that the file does not hold whole is 0.
 ghost use Rattle.std.specs.Prelude.{◌≡◌, ◌+◌};
 ghost use Rattle.numbers.specs.Field.{or_zero};
 ghost use Rattle.signed.specs.Signed.{signed};
-
-use numbers::{U32, U64};
 
 // The number in 4 bytes, `past` bytes behind `at`, or 0 where they are not all in the file.
 pub fn four(file: &[u8], at: usize, past: usize) -> u32
@@ -13,9 +11,9 @@ pub fn four(file: &[u8], at: usize, past: usize) -> u32
     if file.len() < at {
         return 0;
     }
-    match numbers::u32_at(&file[at..], past) {
-        U32::Is(n) => n,
-        U32::Refused(_) => 0,
+    match numbers::read::<u32>(&file[at..], past) {
+        Ok(n) => n,
+        Err(_) => 0,
     }
 }
 
@@ -26,9 +24,9 @@ pub fn eight(file: &[u8], at: usize, past: usize) -> u64
     if file.len() < at {
         return 0;
     }
-    match numbers::u64_at(&file[at..], past) {
-        U64::Is(n) => n,
-        U64::Refused(_) => 0,
+    match numbers::read::<u64>(&file[at..], past) {
+        Ok(n) => n,
+        Err(_) => 0,
     }
 }
 

@@ -1,11 +1,11 @@
-#![tactic(auto)]
+#![tactic(auto, unfolding(numbers::specs::Field::when, numbers::specs::Field::field))]
 // The bytes of a box's children, where its whole content is boxes, and a box around such bytes.
 ghost use Rattle.std.specs.Prelude.{◌≡◌};
 ghost use Rattle.put.specs.Put.{wrote};
 ghost use Rattle.children.specs.Children.{content_of, container_in};
 
 use children::ROW;
-use put::Put;
+use numbers::Refusal;
 
 // The children's bytes, as the part of the box where they lie; no bytes where the box's header is refused.
 pub fn content(part: &[u8], parent: u32) -> &[u8]
@@ -15,7 +15,7 @@ pub fn content(part: &[u8], parent: u32) -> &[u8]
 }
 
 // A box of this type around the children's bytes.
-pub fn around(children: &[u8], parent: u32, out: &mut [u8]) -> Put
+pub fn around(children: &[u8], parent: u32, out: &mut [u8]) -> Result<usize, Refusal>
     ensures { wrote result out.new ≡ container_in parent children.now out.old }
 {
     short::write::by(out, parent, ROW, [0; 8], children)

@@ -3,4 +3,4 @@ use Rattle.agree.proofs.syncs_within.Goals as goal
 
 pub returns : goal.returns
 returns c =
-    syncs-there _ _ _ _ _ c.in-At.is c.heads_within.ensures
+    syncs-there _ _ _ _ _ c.in-Some.is c.heads_within.ensures

@@ -11,10 +11,10 @@ pub slice_bounds-fill-end-2 : goal.slice_bounds-fill-end-2
 slice_bounds-fill-end-2 c =
     full 12288 0
 
-pub returns-in-Refused : goal.returns-in-Refused
-returns-in-Refused c =
-    opened-refused c.args.file.now (boxes c.args.starts.now c.args.sizes.now c.args.kinds.now c.args.parents.now c.args.placed.now) c.args.n _ (fragments-refused c.args.file.now (boxes c.args.starts.now c.args.sizes.now c.args.kinds.now c.args.parents.now c.args.placed.now) c.args.n _ _ _ c.fill.ensures _ c.in-Refused.is)
+pub returns-in-Err : goal.returns-in-Err
+returns-in-Err c =
+    opened-refused c.args.file.now (boxes c.args.starts.now c.args.sizes.now c.args.kinds.now c.args.parents.now c.args.placed.now) c.args.n _ (fragments-refused c.args.file.now (boxes c.args.starts.now c.args.sizes.now c.args.kinds.now c.args.parents.now c.args.placed.now) c.args.n _ _ _ c.fill.ensures _ c.in-Err.is)
 
-pub returns-in-Are : goal.returns-in-Are
-returns-in-Are c =
-    opened c.args.file.now (boxes c.args.starts.now c.args.sizes.now c.args.kinds.now c.args.parents.now c.args.placed.now) c.args.n _ _ _ c.fill.ensures _ _ c.in-Are.is _ c.by_tracks.ensures
+pub returns-in-Ok : goal.returns-in-Ok
+returns-in-Ok c =
+    opened c.args.file.now (boxes c.args.starts.now c.args.sizes.now c.args.kinds.now c.args.parents.now c.args.placed.now) c.args.n _ _ _ c.fill.ensures _ c.in-Ok.is _ c.by_tracks.ensures

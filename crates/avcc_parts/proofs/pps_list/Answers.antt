@@ -4,22 +4,14 @@ use Rattle.avcc.specs.Avcc.{span_of}
 use Rattle.avcc.proofs.Cases.{inside}
 use Rattle.avcc_parts.proofs.pps_list.Goals as goal
 
-pub returns-in_default : goal.returns-in_default
-returns-in_default c =
-    ap (span_of (λ p. p.pps) (λ p. p.pps_end) c.args.part.now) (sym c.in_default.is ∙ c.read.ensures)
-
 pub slice_bounds-result-count : goal.slice_bounds-result-count
 slice_bounds-result-count c =
-    omega (arith, inside c.args.part.now _ _ (sym c.read.ensures ∙ c.in-Is.is))
+    omega (arith, inside c.args.part.now _ _ (sym c.read.ensures ∙ c.in-Ok.is))
 
 pub slice_bounds-result-start : goal.slice_bounds-result-start
 slice_bounds-result-start c =
-    omega (arith, inside c.args.part.now _ _ (sym c.read.ensures ∙ c.in-Is.is))
+    omega (arith, inside c.args.part.now _ _ (sym c.read.ensures ∙ c.in-Ok.is))
 
 pub slice_bounds-result-end-2 : goal.slice_bounds-result-end-2
 slice_bounds-result-end-2 c =
-    omega (arith, inside c.args.part.now _ _ (sym c.read.ensures ∙ c.in-Is.is))
-
-pub returns : goal.returns
-returns c =
-    ap (span_of (λ p. p.pps) (λ p. p.pps_end) c.args.part.now) (sym c.in-Is.is ∙ c.read.ensures)
+    omega (arith, inside c.args.part.now _ _ (sym c.read.ensures ∙ c.in-Ok.is))

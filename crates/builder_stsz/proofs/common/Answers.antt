@@ -1,5 +1,5 @@
 use mathlib.Core.Path.{sym, ◌∙◌}
-use Rattle.builder.proofs.Answers.{common-empty, common-wide, common-is, common-not}
+use Rattle.builder.proofs.Says.{common-empty, common-wide, common-is, common-not}
 use Rattle.builder_stsz.proofs.common.Goals as goal
 
 pub returns-then-n-eq0 : goal.returns-then-n-eq0

@@ -5,17 +5,9 @@ use Rattle.columns.proofs.Written.{begins}
 use Rattle.builder.proofs.Fills.{list_on, list-ends}
 use Rattle.builder_stsz.proofs.fill.Goals as goal
 
-pub loop-i-init : goal.loop-i-init
-loop-i-init c =
-    begins (lows_of c.args.records.now c.args.n 2) (lows_of c.args.records.now c.args.n 2) c.args.out.now refl
-
 pub loop-i-preserved : goal.loop-i-preserved
 loop-i-preserved c =
     list_on c.args.records.now c.args.n 2 c.args.out.now c.loop-i.out _ c.loop-i.i c.low-size.result c.loop-i.invariant c.loop-i-test.true c.low-size.ensures c.word.ensures
-
-pub shape_of-out : goal.shape_of-out
-shape_of-out c =
-    c.loop-i.invariant.same
 
 pub returns : goal.returns
 returns c =

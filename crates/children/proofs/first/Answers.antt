@@ -1,19 +1,13 @@
 use mathlib.Core.Path.{sym, ap, ◌∙◌}
+use Rattle.std.specs.Prelude.{Err}
+use Rattle.std.proofs.lemmas.Result.{err_from_is_err_and}
 use lib.Seq.{length-take-le}
 use Rattle.layout.proofs.Rests.{end-in}
-use Rattle.children.specs.Children.{first_in, fields}
-use Rattle.children.proofs.Turns.{own-fault, own_row}
+use Rattle.children.specs.Children.{first_in, inside, fields}
 use Rattle.children.proofs.first.Goals as goal
 
-pub returns-then-got-ne0 : goal.returns-then-got-ne0
+pub returns-in_err-got : goal.returns-in_err-got
 unfolding first_in
-returns-then-got-ne0 c =
-    ap (first_in c.args.kind) (own-fault c.args.part.now _ _ c.by-got.ensures c.if-got-ne0.true)
-
-pub slice_bounds-first_from-end : goal.slice_bounds-first_from-end
-slice_bounds-first_from-end c =
-    sym (length-take-le _ c.args.part.now (end-in c.args.parent fields c.args.part.now _ c.by-got.ensures))
-
-pub returns : goal.returns
-returns c =
-    c.first_from.ensures ∙ ap (first_in c.args.kind) (own_row c.args.part.now _ _ c.by-got.ensures c.if-got-ne0.false)
+returns-in_err-got c =
+    let p = err_from_is_err_and c.from_residual.result c.from_residual.ensures.1 in
+    p.1 ∙ ap Err p.2 ∙ ap (λ r. first_in c.args.kind (inside c.args.part.now r)) c.in_err-got.ensures

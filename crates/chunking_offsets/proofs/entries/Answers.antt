@@ -1,31 +1,27 @@
-use mathlib.Core.Path.{ap, ◌∙◌}
+use mathlib.Core.Path.{refl, ap, ◌∙◌}
 use native.Mathlib.Omega.{arith}
 use Prim.Native.Nat.{ℕ, ◌*◌}
 use mathlib.Core.Bool.{Bool}
 use Rattle.columns.specs.Entries.{placed_of}
-use Rattle.columns.proofs.Written.{placed-done}
+use Rattle.columns.proofs.Written.{placed-small, placed-done}
 use Rattle.chunking.specs.Chunking.{chunks_in}
 use Rattle.chunking.specs.Entries.{offsets_by, any_wide}
-use Rattle.chunking.proofs.Answers.{refused-small, says-timescale, says_none, says-many, says-unfit, says}
+use Rattle.chunking.proofs.Says.{says-timescale, says_none, says-many, says-unfit, says}
 use Rattle.chunking.proofs.Fills.{offsets-few}
 use mathlib.Core.Bool.{not}
 use Rattle.chunking_offsets.proofs.entries.Goals as goal
 
-pub returns-then-timescale-eq0 : goal.returns-then-timescale-eq0
-returns-then-timescale-eq0 c =
-    says-timescale c.args.timescale c.args.records.now c.args.n (offsets_by (any_wide (chunks_in c.args.timescale c.args.records.now c.args.n)) (chunks_in c.args.timescale c.args.records.now c.args.n)) c.args.out.now c.refuse.result c.if-timescale-eq0.true c.refuse.ensures
-
 pub returns-then-not-has : goal.returns-then-not-has
 returns-then-not-has c =
-    says_none c.args.timescale c.args.records.now c.args.n (offsets_by (any_wide (chunks_in c.args.timescale c.args.records.now c.args.n)) (chunks_in c.args.timescale c.args.records.now c.args.n)) c.args.out.now c.if-timescale-eq0.false c.has.result c.has.ensures c.refuse-then-not-has.result (ap not c.if-not-has.true) c.refuse-then-not-has.ensures
+    says_none c.args.timescale c.args.records.now c.args.n (offsets_by (any_wide (chunks_in c.args.timescale c.args.records.now c.args.n)) (chunks_in c.args.timescale c.args.records.now c.args.n)) c.args.out.now c.if-timescale-eq0.false c.has.result c.has.ensures (ap not c.if-not-has.true)
 
 pub returns-then-n-gt-MANY : goal.returns-then-n-gt-MANY
 returns-then-n-gt-MANY c =
-    says-many c.args.timescale c.args.records.now c.args.n (offsets_by (any_wide (chunks_in c.args.timescale c.args.records.now c.args.n)) (chunks_in c.args.timescale c.args.records.now c.args.n)) c.args.out.now c.if-timescale-eq0.false c.has.result c.has.ensures (ap not c.if-not-has.false) c.refuse-then-n-gt-MANY.result c.if-n-gt-MANY.true c.refuse-then-n-gt-MANY.ensures
+    says-many c.args.timescale c.args.records.now c.args.n (offsets_by (any_wide (chunks_in c.args.timescale c.args.records.now c.args.n)) (chunks_in c.args.timescale c.args.records.now c.args.n)) c.args.out.now c.if-timescale-eq0.false c.has.result c.has.ensures (ap not c.if-not-has.false) c.if-n-gt-MANY.true
 
 pub returns-then-not-fit : goal.returns-then-not-fit
 returns-then-not-fit c =
-    says-unfit c.args.timescale c.args.records.now c.args.n (offsets_by (any_wide (chunks_in c.args.timescale c.args.records.now c.args.n)) (chunks_in c.args.timescale c.args.records.now c.args.n)) c.args.out.now c.if-timescale-eq0.false c.has.result c.has.ensures (ap not c.if-not-has.false) c.refuse-then-not-fit.result c.fit.result c.if-n-gt-MANY.false c.fit.ensures (ap not c.if-not-fit.true) c.refuse-then-not-fit.ensures
+    says-unfit c.args.timescale c.args.records.now c.args.n (offsets_by (any_wide (chunks_in c.args.timescale c.args.records.now c.args.n)) (chunks_in c.args.timescale c.args.records.now c.args.n)) c.args.out.now c.if-timescale-eq0.false c.has.result c.has.ensures (ap not c.if-not-has.false) c.fit.result c.if-n-gt-MANY.false c.fit.ensures (ap not c.if-not-fit.true)
 
 pub overflow_mul-needed : goal.overflow_mul-needed
 overflow_mul-needed c =
@@ -33,7 +29,7 @@ overflow_mul-needed c =
 
 pub returns-then-out-needed : goal.returns-then-out-needed
 returns-then-out-needed c =
-    says c.args.timescale c.args.records.now c.args.n (offsets_by (any_wide (chunks_in c.args.timescale c.args.records.now c.args.n)) (chunks_in c.args.timescale c.args.records.now c.args.n)) c.args.out.now c.if-timescale-eq0.false c.has.result c.has.ensures (ap not c.if-not-has.false) _ c.fit.result c.if-n-gt-MANY.false c.fit.ensures (ap not c.if-not-fit.false) (refused-small c.refuse-then-out-needed.result (offsets_by c.wide-far.result (chunks_in c.args.timescale c.args.records.now c.args.n)) c.args.out.now (c.walk-numbers.result * 4) c.refuse-then-out-needed.ensures (ap (λ (m : ℕ). m * 4) c.walk-numbers.ensures) c.if-out-needed.true ∙ ap (λ (b : Bool). placed_of (offsets_by b (chunks_in c.args.timescale c.args.records.now c.args.n)) c.args.out.now) c.wide-far.ensures)
+    says c.args.timescale c.args.records.now c.args.n (offsets_by (any_wide (chunks_in c.args.timescale c.args.records.now c.args.n)) (chunks_in c.args.timescale c.args.records.now c.args.n)) c.args.out.now c.if-timescale-eq0.false c.has.result c.has.ensures (ap not c.if-not-has.false) _ c.fit.result c.if-n-gt-MANY.false c.fit.ensures (ap not c.if-not-fit.false) (placed-small (offsets_by c.wide-far.result (chunks_in c.args.timescale c.args.records.now c.args.n)) c.args.out.now (c.walk-numbers.result * 4) (ap (λ (m : ℕ). m * 4) c.walk-numbers.ensures) c.if-out-needed.true ∙ ap (λ (b : Bool). placed_of (offsets_by b (chunks_in c.args.timescale c.args.records.now c.args.n)) c.args.out.now) c.wide-far.ensures)
 
 pub returns : goal.returns
 returns c =

@@ -6,10 +6,6 @@ use Rattle.chunking.specs.Chunking.{chunks_from}
 use Rattle.chunking.proofs.Fills.{pieces, one-sample, no-sample, offsets-few, offsets-begin, offsets-on, offsets-end}
 use Rattle.chunking_offsets.proofs.fill.Goals as goal
 
-pub loop-i-init : goal.loop-i-init
-loop-i-init c =
-    offsets-begin c.args.timescale c.args.records.now c.args.n c.args.wide c.args.out.now _ c.none-chunk.ensures
-
 pub put_closed-k-requires : goal.put_closed-k-requires
 put_closed-k-requires c =
     omega (arith, offsets-few c.args.timescale c.args.records.now c.args.n c.args.wide, c.loop-i.invariant.many)
@@ -21,10 +17,6 @@ loop-i-preserved c =
 pub put_closed-requires : goal.put_closed-requires
 put_closed-requires c =
     omega (arith, offsets-few c.args.timescale c.args.records.now c.args.n c.args.wide, c.loop-i.invariant.many)
-
-pub shape_of-out : goal.shape_of-out
-shape_of-out c =
-    (offsets-end c.args.timescale c.args.records.now c.args.n c.args.wide c.args.out.now c.loop-i.out _ c.loop-i.k _ (chunks_from c.args.timescale c.loop-i.chunk (drop c.loop-i.i (pieces c.args.records.now c.args.n))) c.loop-i.invariant c.finish-last.result c.put_closed.ensures (no-sample c.args.timescale c.args.records.now c.args.n c.loop-i.chunk c.loop-i.i c.finish-last.result c.loop-i-test.false c.finish-last.ensures)).same
 
 pub returns : goal.returns
 returns c =

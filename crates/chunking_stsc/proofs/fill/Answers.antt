@@ -28,10 +28,6 @@ pub put_run-end-requires : goal.put_run-end-requires
 put_run-end-requires c =
     (omega (arith, groups-few c.args.timescale c.args.records.now c.args.n, (groups-on (groups_in c.args.timescale c.args.records.now c.args.n) c.args.out.now c.loop-i.out _ (chunks_from c.args.timescale c.loop-i.chunk (drop c.loop-i.i (pieces c.args.records.now c.args.n))) c.loop-i.group c.put_chunk-group-2.result (2 + c.args.n) c.loop-i.invariant c.finish-last.result [] ((no-sample c.args.timescale c.args.records.now c.args.n c.loop-i.chunk c.loop-i.i c.finish-last.result c.loop-i-test.false c.finish-last.ensures) ∙ sym (append-nil (closed_of c.finish-last.result))) c.put_chunk-group-2.ensures).words.many), omega (arith, (groups-on (groups_in c.args.timescale c.args.records.now c.args.n) c.args.out.now c.loop-i.out _ (chunks_from c.args.timescale c.loop-i.chunk (drop c.loop-i.i (pieces c.args.records.now c.args.n))) c.loop-i.group c.put_chunk-group-2.result (2 + c.args.n) c.loop-i.invariant c.finish-last.result [] ((no-sample c.args.timescale c.args.records.now c.args.n c.loop-i.chunk c.loop-i.i c.finish-last.result c.loop-i-test.false c.finish-last.ensures) ∙ sym (append-nil (closed_of c.finish-last.result))) c.put_chunk-group-2.ensures).number))
 
-pub shape_of-out : goal.shape_of-out
-shape_of-out c =
-    (groups-end (groups_in c.args.timescale c.args.records.now c.args.n) c.args.out.now _ _ [] c.put_chunk-group-2.result c.put_run-end.result (2 + c.args.n) (groups-on (groups_in c.args.timescale c.args.records.now c.args.n) c.args.out.now c.loop-i.out _ (chunks_from c.args.timescale c.loop-i.chunk (drop c.loop-i.i (pieces c.args.records.now c.args.n))) c.loop-i.group c.put_chunk-group-2.result (2 + c.args.n) c.loop-i.invariant c.finish-last.result [] ((no-sample c.args.timescale c.args.records.now c.args.n c.loop-i.chunk c.loop-i.i c.finish-last.result c.loop-i-test.false c.finish-last.ensures) ∙ sym (append-nil (closed_of c.finish-last.result))) c.put_chunk-group-2.ensures) c.finish.result refl c.finish.ensures c.put_run-end.ensures).same
-
 pub returns : goal.returns
 returns c =
     groups-end (groups_in c.args.timescale c.args.records.now c.args.n) c.args.out.now _ _ [] c.put_chunk-group-2.result c.put_run-end.result (2 + c.args.n) (groups-on (groups_in c.args.timescale c.args.records.now c.args.n) c.args.out.now c.loop-i.out _ (chunks_from c.args.timescale c.loop-i.chunk (drop c.loop-i.i (pieces c.args.records.now c.args.n))) c.loop-i.group c.put_chunk-group-2.result (2 + c.args.n) c.loop-i.invariant c.finish-last.result [] ((no-sample c.args.timescale c.args.records.now c.args.n c.loop-i.chunk c.loop-i.i c.finish-last.result c.loop-i-test.false c.finish-last.ensures) ∙ sym (append-nil (closed_of c.finish-last.result))) c.put_chunk-group-2.ensures) c.finish.result refl c.finish.ensures c.put_run-end.ensures

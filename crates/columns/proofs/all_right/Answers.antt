@@ -3,10 +3,6 @@ use Prim.Native.Nat.{◌-◌}
 use Rattle.columns.proofs.Cells.{all_end, all_more, all-stop}
 use Rattle.columns.proofs.all_right.Goals as goal
 
-pub loop-i-init : goal.loop-i-init
-loop-i-init c =
-    refl
-
 pub returns-then-not-right : goal.returns-then-not-right
 returns-then-not-right c =
     all-stop c.args.rule c.args.records.now c.args.n c.args.column c.loop-i.i c.cell-x.result c.loop-i-test.true c.cell-x.ensures (sym c.right.ensures ∙ c.if-not-right.true) ∙ c.loop-i.invariant

@@ -8,4 +8,4 @@ returns-then-out-k c =
 
 pub returns : goal.returns
 returns c =
-    stored c.args.out.now c.args.k c.args.x c.u32_at.result _ c.if-out-k.false (omega arith) c.u32_at.ensures
+    stored c.args.out.now c.args.k c.args.x c.write.result _ c.if-out-k.false (omega arith) c.write.ensures

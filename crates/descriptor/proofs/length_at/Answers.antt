@@ -1,15 +1,12 @@
+use Rattle.std.specs.Prelude.{Ok}
 use mathlib.Core.Path.{◌≡◌, refl, ap, ◌∙◌}
 use Prim.Native.Nat.{◌+◌, ◌-◌, ◌*◌, ◌^◌, ◌≤◌}
 use native.Mathlib.Numerals.{add-one}
 use native.Mathlib.Omega.{arith}
 use Rattle.descriptor.specs.Descriptor.{length_from}
-use Rattle.descriptor.specs.declared.Length.TheVariants.{Is}
 use Rattle.descriptor.proofs.Cases.{too_long, cut, last, more, grows, under}
 use Rattle.descriptor.proofs.length_at.Goals as goal
-
-pub loop-i-init : goal.loop-i-init
-loop-i-init c =
-    (refl, omega arith, omega arith)
+use Rattle.descriptor.specs.Descriptor.{length_record}
 
 pub returns-then-s-p : goal.returns-then-s-p
 returns-then-s-p c =
@@ -25,7 +22,7 @@ overflow_add-value c =
 
 pub returns-then-byte-lt128 : goal.returns-then-byte-lt128
 returns-then-byte-lt128 c =
-    ap (λ x. Is (c.loop-i.value * 128 + c.low.result) x) (add-one c.loop-i.p) ∙ last c.args.at c.loop-i.value c.args.s.now c.loop-i.p (4 - c.loop-i.i) (3 - c.loop-i.i) (omega arith) (omega arith) _ (ap (λ x. c.loop-i.value * 128 + x) c.low.ensures.0) c.if-byte-lt128.true ∙ c.loop-i.invariant.0
+    ap (λ x. Ok (length_record (c.loop-i.value * 128 + c.low.result) x)) (add-one c.loop-i.p) ∙ last c.args.at c.loop-i.value c.args.s.now c.loop-i.p (4 - c.loop-i.i) (3 - c.loop-i.i) (omega arith) (omega arith) _ (ap (λ x. c.loop-i.value * 128 + x) c.low.ensures.0) c.if-byte-lt128.true ∙ c.loop-i.invariant.0
 
 pub loop-i-preserved : goal.loop-i-preserved
 loop-i-preserved c =

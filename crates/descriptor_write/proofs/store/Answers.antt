@@ -5,10 +5,6 @@ use lib.ListN.{length, length-set}
 use Rattle.descriptor.proofs.Cases.{stored, none_left, pow_pos, high_is}
 use Rattle.descriptor_write.proofs.store.Goals as goal
 
-pub loop-left-init : goal.loop-left-init
-loop-left-init c =
-    (refl, refl, omega arith, refl)
-
 pub nonzero_div-out : goal.nonzero_div-out
 nonzero_div-out c =
     omega (arith, c.power.ensures, pow_pos (c.loop-left.left - 1))
@@ -20,10 +16,6 @@ overflow_add-out c =
 pub loop-left-preserved : goal.loop-left-preserved
 loop-left-preserved c =
     (stored c.loop-left.out c.loop-left.left c.loop-left.p c.args.value c.power.result c.high_bit.result c.loop-left-test.true c.power.ensures c.high_bit.ensures ∙ c.loop-left.invariant.0, omega arith, omega arith, simp length-set c.loop-left.invariant.3)
-
-pub shape_of-out : goal.shape_of-out
-shape_of-out c =
-    c.loop-left.invariant.3
 
 pub returns : goal.returns
 returns c =

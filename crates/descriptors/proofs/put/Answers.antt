@@ -4,29 +4,9 @@ use Rattle.descriptor.proofs.Laws.{size-least}
 use Rattle.descriptors.proofs.Puts.{too_long, no-sum-for, no-room-for, all-put}
 use Rattle.descriptors.proofs.put.Goals as goal
 
-pub returns-then-content-ge268435456 : goal.returns-then-content-ge268435456
-returns-then-content-ge268435456 c =
-    too_long c.args.tag c.args.content.now c.args.at c.args.out.now c.if-content-ge268435456.true
-
-pub overflow_add-head : goal.overflow_add-head
-overflow_add-head c =
-    omega (arith, c.length_size-head.ensures, size-least (length c.args.content.now) 4 (omega arith) (omega arith))
-
-pub overflow_add-size : goal.overflow_add-size
-overflow_add-size c =
-    omega (arith, c.length_size-head.ensures, size-least (length c.args.content.now) 4 (omega arith) (omega arith))
-
-pub overflow_sub-size : goal.overflow_sub-size
-overflow_sub-size c =
-    omega (arith, c.length_size-head.ensures, size-least (length c.args.content.now) 4 (omega arith) (omega arith))
-
 pub returns-then-size-at : goal.returns-then-size-at
 returns-then-size-at c =
     no-sum-for c.args.tag c.args.content.now c.args.at c.args.out.now c.if-content-ge268435456.false _ c.length_size-head.ensures (omega arith) (omega (arith, c.length_size-head.ensures, size-least (length c.args.content.now) 4 (omega arith) (omega arith), c.if-size-at.true))
-
-pub overflow_add-end : goal.overflow_add-end
-overflow_add-end c =
-    omega (arith, c.length_size-head.ensures, size-least (length c.args.content.now) 4 (omega arith) (omega arith), c.if-size-at.false)
 
 pub returns-then-out-end : goal.returns-then-out-end
 returns-then-out-end c =

@@ -2,10 +2,6 @@ use native.Mathlib.Omega.{arith}
 use Rattle.emsg.proofs.Puts.{length-laid-0, length-laid-1, early-time, late-time, early-put, late-put}
 use Rattle.emsg_write.proofs.put_content.Goals as goal
 
-pub put_strings-strings-requires : goal.put_strings-strings-requires
-put_strings-strings-requires c =
-    omega (arith, length-laid-0 c.args.emsg c.args.scheme.now c.args.value.now c.args.message.now c.if-emsg-eq0.true, c.requires.0)
-
 pub put_numbers-numbers-requires : goal.put_numbers-numbers-requires
 put_numbers-numbers-requires c =
     (omega (arith, length-laid-0 c.args.emsg c.args.scheme.now c.args.value.now c.args.message.now c.if-emsg-eq0.true, c.requires.0, c.put_strings-strings.ensures.1), omega arith, early-time c.args.emsg c.if-emsg-eq0.true c.requires.1)

@@ -4,4 +4,4 @@ use Rattle.emsg_write.proofs.put_numbers.Goals as goal
 
 pub returns : goal.returns
 returns c =
-    (numbers-put c.args.emsg c.args.w c.args.out.now _ _ _ _ _ _ _ _ c.args.at c.requires.0 c.requires.1 (omega arith) c.requires.2 (omega arith) (omega arith) c.u32_at.ensures c.number.ensures c.u32_at-2.ensures c.u32_at-3.ensures, omega arith)
+    (numbers-put c.args.emsg c.args.w c.args.out.now _ _ _ _ _ _ _ _ c.args.at c.requires.0 c.requires.1 (omega arith) c.requires.2 (omega arith) (omega arith) c.write.ensures c.number.ensures c.write-2.ensures c.write-3.ensures, omega arith)

@@ -3,10 +3,6 @@ use native.Mathlib.Omega.{arith}
 use Rattle.emsg.proofs.Puts.{wide-most, by-fixed, sounds, unsound, other-version, long-flags, too_long, too_small, content-in, all-put}
 use Rattle.emsg_write.proofs.write.Goals as goal
 
-pub returns-then-not-is_sound : goal.returns-then-not-is_sound
-returns-then-not-is_sound c =
-    unsound c.args.emsg c.args.scheme.now c.args.value.now c.args.message.now c.args.out.now (sym c.is_sound.ensures ∙ c.if-not-is_sound.true)
-
 pub returns-then-emsg-gt1 : goal.returns-then-emsg-gt1
 returns-then-emsg-gt1 c =
     other-version c.args.emsg c.args.scheme.now c.args.value.now c.args.message.now c.args.out.now (sym c.is_sound.ensures ∙ c.if-not-is_sound.false) c.if-emsg-gt1.true
@@ -14,10 +10,6 @@ returns-then-emsg-gt1 c =
 pub returns-then-emsg-gt16777215 : goal.returns-then-emsg-gt16777215
 returns-then-emsg-gt16777215 c =
     long-flags c.args.emsg c.args.scheme.now c.args.value.now c.args.message.now c.args.out.now (sym c.is_sound.ensures ∙ c.if-not-is_sound.false) c.if-emsg-gt1.false c.if-emsg-gt16777215.true
-
-pub capped-requires : goal.capped-requires
-capped-requires c =
-    omega (arith, c.fixed.ensures, wide-most c.args.emsg.version)
 
 pub returns-then-total-gt4294967295 : goal.returns-then-total-gt4294967295
 returns-then-total-gt4294967295 c =

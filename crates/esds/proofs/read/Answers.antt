@@ -7,22 +7,13 @@ use Rattle.layout.specs.Canonical.{most, limit}
 use Rattle.layout.proofs.Rests.{end-in}
 use Rattle.rounds.proofs.Boxes.{fits}
 use Rattle.esds.specs.Esds.{kind, fields}
-use Rattle.esds.proofs.Cases.{unread, read_told}
 use Rattle.esds.proofs.read.Goals as goal
-
-pub returns-then-got-ne0 : goal.returns-then-got-ne0
-returns-then-got-ne0 c =
-    unread c.args.part.now _ c.by-got.ensures c.if-got-ne0.true
 
 pub slice_bounds-stream_at-end : goal.slice_bounds-stream_at-end
 slice_bounds-stream_at-end c =
-    sym (length-take-le _ c.args.part.now (end-in kind fields c.args.part.now _ c.by-got.ensures))
+    sym (length-take-le _ c.args.part.now (end-in kind fields c.args.part.now _ (sym c.in_ok-got.ensures)))
 
 pub overflow_cast-v : goal.overflow_cast-v
 unfolding limit most rule_of when
 overflow_cast-v c =
-    omega (arith, fits kind fields c.args.part.now 1 16777215 _ c.by-got.ensures refl)
-
-pub returns : goal.returns
-returns c =
-    read_told c.args.part.now _ c.by-got.ensures _ c.if-got-ne0.false c.stream_at.ensures
+    omega (arith, fits kind fields c.args.part.now 1 16777215 _ (sym c.in_ok-got.ensures) refl)

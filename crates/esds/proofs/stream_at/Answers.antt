@@ -1,43 +1,37 @@
-use mathlib.Core.Path.{sym, ◌∙◌}
+use Prim.Native.Nat.{◌+◌, ◌≤◌}
+use mathlib.Core.Path.{refl, sym, ap, ◌∙◌}
 use native.Mathlib.Omega.{arith}
+use lib.ListN.{length}
 use lib.Seq.{length-take-le}
-use Rattle.numbers.proofs.Chain.{by8, there}
+use Rattle.numbers.proofs.Chain.{has, is_le, is_eq, is_ne}
 use Rattle.descriptor.proofs.Laws.{length-within}
-use Rattle.esds.proofs.Cases.{no-tag, bad-length, bad-both, past, other, its-content}
+use Rattle.esds.specs.Esds.{lengthed}
 use Rattle.esds.proofs.stream_at.Goals as goal
-
-pub returns-in_default : goal.returns-in_default
-returns-in_default c =
-    no-tag c.args.s.now c.args.at c.args.flags _ c.u8_at.ensures _ c.in_default.is
-
-pub overflow_add-at : goal.overflow_add-at
-overflow_add-at c =
-    omega (arith, (there by8 1 c.args.s.now c.args.at _ c.u8_at.ensures _ c.in-Is.is).0)
-
-pub returns-then-tag-eq3 : goal.returns-then-tag-eq3
-returns-then-tag-eq3 c =
-    bad-length c.args.s.now c.args.at c.args.flags _ c.u8_at.ensures _ c.in-Is.is _ c.length_at.ensures _ c.in-Refused.is c.if-tag-eq3.true
 
 pub overflow_sub-s : goal.overflow_sub-s
 overflow_sub-s c =
-    omega (arith, (length-within c.args.s.now _ _ _ (sym c.length_at.ensures ∙ c.in-Is-length_at.is)).0)
-
-pub returns-then-s-after : goal.returns-then-s-after
-returns-then-s-after c =
-    past c.args.s.now c.args.at c.args.flags _ c.u8_at.ensures _ c.in-Is.is _ c.length_at.ensures _ _ c.in-Is-length_at.is (omega (arith, c.if-s-after.true, (length-within c.args.s.now _ _ _ (sym c.length_at.ensures ∙ c.in-Is-length_at.is)).0))
+    (length-within c.args.s.now (c.args.at + 1) c.in-Ok.length.value c.in-Ok.length.after (sym c.in-Ok.ensures)).0
 
 pub slice_bounds-content_at-end : goal.slice_bounds-content_at-end
 slice_bounds-content_at-end c =
-    sym (length-take-le _ c.args.s.now (omega (arith, c.if-s-after.false, (length-within c.args.s.now _ _ _ (sym c.length_at.ensures ∙ c.in-Is-length_at.is)).0)))
+    let l = c.in-Ok.length in
+    let w = (length-within c.args.s.now (c.args.at + 1) l.value l.after (sym c.in-Ok.ensures)).0 in
+    sym (length-take-le _ c.args.s.now (omega (arith, w, c.if-s-length.false)))
 
 pub returns-then-tag-eq3-2 : goal.returns-then-tag-eq3-2
 returns-then-tag-eq3-2 c =
-    its-content c.args.s.now c.args.at c.args.flags _ c.u8_at.ensures _ c.in-Is.is _ c.length_at.ensures _ _ c.in-Is-length_at.is (omega (arith, c.if-s-after.false, (length-within c.args.s.now _ _ _ (sym c.length_at.ensures ∙ c.in-Is-length_at.is)).0)) c.if-tag-eq3-2.true _ c.content_at.ensures
-
-pub returns-else-tag-eq3 : goal.returns-else-tag-eq3
-returns-else-tag-eq3 c =
-    bad-both c.args.s.now c.args.at c.args.flags _ c.u8_at.ensures _ c.in-Is.is _ c.length_at.ensures _ c.in-Refused.is c.if-tag-eq3.false
+    let l = c.in-Ok.length in
+    let w = (length-within c.args.s.now (c.args.at + 1) l.value l.after (sym c.in-Ok.ensures)).0 in
+    let r : l.after + l.value ≤ length c.args.s.now = omega (arith, w, c.if-s-length.false) in
+    has 1 c.args.s.now c.args.at _ c.read.ensures _ _ _ c.in_ok-tag.tag c.in_ok-tag.was
+    (is_le _ _ _ (l.after + l.value) (length c.args.s.now) r (is_eq _ _ _ c.in_ok-tag.tag 3 c.if-tag-eq3-2.true c.content_at.ensures)
+    ∙ ap (lengthed c.args.s.now c.args.at c.args.flags c.in_ok-tag.tag) c.in-Ok.ensures)
 
 pub returns-else-tag-eq3-2 : goal.returns-else-tag-eq3-2
 returns-else-tag-eq3-2 c =
-    other c.args.s.now c.args.at c.args.flags _ c.u8_at.ensures _ c.in-Is.is _ c.length_at.ensures _ _ c.in-Is-length_at.is (omega (arith, c.if-s-after.false, (length-within c.args.s.now _ _ _ (sym c.length_at.ensures ∙ c.in-Is-length_at.is)).0)) c.if-tag-eq3-2.false
+    let l = c.in-Ok.length in
+    let w = (length-within c.args.s.now (c.args.at + 1) l.value l.after (sym c.in-Ok.ensures)).0 in
+    let r : l.after + l.value ≤ length c.args.s.now = omega (arith, w, c.if-s-length.false) in
+    has 1 c.args.s.now c.args.at _ c.read.ensures _ _ _ c.in_ok-tag.tag c.in_ok-tag.was
+    (is_le _ _ _ (l.after + l.value) (length c.args.s.now) r (is_ne _ _ _ c.in_ok-tag.tag 3 c.if-tag-eq3-2.false refl)
+    ∙ ap (lengthed c.args.s.now c.args.at c.args.flags c.in_ok-tag.tag) c.in-Ok.ensures)

@@ -4,22 +4,14 @@ use Rattle.esds.specs.Esds.{span_of}
 use Rattle.esds.proofs.Contents.{inside}
 use Rattle.esds_parts.proofs.info.Goals as goal
 
-pub returns-in_default : goal.returns-in_default
-returns-in_default c =
-    ap (span_of (λ p. p.info) (λ p. p.info_end) c.args.part.now) (sym c.in_default.is ∙ c.read.ensures)
-
 pub slice_bounds-result-count : goal.slice_bounds-result-count
 slice_bounds-result-count c =
-    omega (arith, (inside _ _ c.args.part.now (sym c.read.ensures ∙ c.in-Is.is)).info.0, (inside _ _ c.args.part.now (sym c.read.ensures ∙ c.in-Is.is)).info.1)
+    omega (arith, (inside _ _ c.args.part.now (sym c.read.ensures ∙ c.in-Ok.is)).info.0, (inside _ _ c.args.part.now (sym c.read.ensures ∙ c.in-Ok.is)).info.1)
 
 pub slice_bounds-result-start : goal.slice_bounds-result-start
 slice_bounds-result-start c =
-    omega (arith, (inside _ _ c.args.part.now (sym c.read.ensures ∙ c.in-Is.is)).info.0, (inside _ _ c.args.part.now (sym c.read.ensures ∙ c.in-Is.is)).info.1)
+    omega (arith, (inside _ _ c.args.part.now (sym c.read.ensures ∙ c.in-Ok.is)).info.0, (inside _ _ c.args.part.now (sym c.read.ensures ∙ c.in-Ok.is)).info.1)
 
 pub slice_bounds-result-end-2 : goal.slice_bounds-result-end-2
 slice_bounds-result-end-2 c =
-    omega (arith, (inside _ _ c.args.part.now (sym c.read.ensures ∙ c.in-Is.is)).info.0, (inside _ _ c.args.part.now (sym c.read.ensures ∙ c.in-Is.is)).info.1)
-
-pub returns : goal.returns
-returns c =
-    ap (span_of (λ p. p.info) (λ p. p.info_end) c.args.part.now) (sym c.in-Is.is ∙ c.read.ensures)
+    omega (arith, (inside _ _ c.args.part.now (sym c.read.ensures ∙ c.in-Ok.is)).info.0, (inside _ _ c.args.part.now (sym c.read.ensures ∙ c.in-Ok.is)).info.1)

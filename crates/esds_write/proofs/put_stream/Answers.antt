@@ -1,30 +1,31 @@
-use native.Mathlib.Omega.{arith}
-use Rattle.descriptors.proofs.Puts.{same-long}
-use Rattle.esds.specs.Esds.{decoder_bytes}
 use Rattle.esds.proofs.Sounds.{sounds}
-use Rattle.esds_write.proofs.Puts.{stream-room, stream-long, stream-put}
+use Rattle.esds_write.proofs.Puts.{never, one-put, two-put, decoder-room, three-put, sl-room, stream-put}
 use Rattle.esds_write.proofs.put_stream.Goals as goal
 
-pub overflow_add-at : goal.overflow_add-at
-overflow_add-at c =
-    omega (arith, stream-room c.args.esds c.args.url.now c.args.info.now c.args.sl.now c.requires.3 c.args.n c.args.first c.args.second _ c.requires.0 c.requires.1 c.requires.2 c.length_size-at.ensures c.args.out.now c.requires.4, c.well_formed)
+pub returns-in_err-fields : goal.returns-in_err-fields
+returns-in_err-fields c =
+    absurd (never _ _ _ _ (one-put c.args.esds c.args.url.now c.args.info.now c.args.sl.now c.requires.1 c.args.n c.requires.0 c.args.out.now c.requires.2 _ _ c.put_head.ensures) _ c.in_err-fields.was)
 
-pub overflow_add-next : goal.overflow_add-next
-overflow_add-next c =
-    omega (arith, stream-room c.args.esds c.args.url.now c.args.info.now c.args.sl.now c.requires.3 c.args.n c.args.first c.args.second _ c.requires.0 c.requires.1 c.requires.2 c.length_size-at.ensures c.args.out.now c.requires.4, c.well_formed)
+pub returns-in_err-decoder : goal.returns-in_err-decoder
+returns-in_err-decoder c =
+    absurd (never _ _ _ _ (two-put c.args.esds c.args.url.now c.args.info.now c.args.sl.now c.requires.1 c.args.n c.requires.0 c.args.out.now c.requires.2 _ _ c.put_head.ensures _ c.in_ok-fields.was _ _ c.put.ensures) _ c.in_err-decoder.was)
 
 pub put_decoder-requires : goal.put_decoder-requires
-put_decoder-requires c =
-    (omega (arith, stream-room c.args.esds c.args.url.now c.args.info.now c.args.sl.now c.requires.3 c.args.n c.args.first c.args.second _ c.requires.0 c.requires.1 c.requires.2 c.length_size-at.ensures c.args.out.now c.requires.4, stream-long c.args.esds c.args.url.now c.args.info.now c.args.sl.now c.requires.3 c.args.n c.args.first c.args.second _ c.requires.0 c.requires.1 c.requires.2 c.length_size-at.ensures c.args.out.now c.requires.4 _ _ _ _ c.put_head.ensures c.put.ensures, c.requires.2), (sounds c.args.esds c.args.url.now c.args.info.now c.args.sl.now c.requires.3).decoder-ok)
+put_decoder-requires c = (
+  decoder-room c.args.esds c.args.url.now c.args.info.now c.args.sl.now c.requires.1 c.args.n c.requires.0 c.args.out.now c.requires.2 _ _ c.put_head.ensures _ c.in_ok-fields.was _ _ c.put.ensures _ c.in_ok-decoder.was,
+  (sounds c.args.esds c.args.url.now c.args.info.now c.args.sl.now c.requires.1).decoder-ok,
+)
 
-pub overflow_add-next-2 : goal.overflow_add-next-2
-overflow_add-next-2 c =
-    omega (arith, stream-room c.args.esds c.args.url.now c.args.info.now c.args.sl.now c.requires.3 c.args.n c.args.first c.args.second _ c.requires.0 c.requires.1 c.requires.2 c.length_size-at.ensures c.args.out.now c.requires.4, c.well_formed)
+pub returns-in_err-last : goal.returns-in_err-last
+returns-in_err-last c =
+    absurd (never _ _ _ _ (three-put c.args.esds c.args.url.now c.args.info.now c.args.sl.now c.requires.1 c.args.n c.requires.0 c.args.out.now c.requires.2 _ _ c.put_head.ensures _ c.in_ok-fields.was _ _ c.put.ensures _ c.in_ok-decoder.was _ _ c.put_decoder.ensures) _ c.in_err-last.was)
 
 pub put_sl-requires : goal.put_sl-requires
-put_sl-requires c =
-    (omega (arith, stream-room c.args.esds c.args.url.now c.args.info.now c.args.sl.now c.requires.3 c.args.n c.args.first c.args.second _ c.requires.0 c.requires.1 c.requires.2 c.length_size-at.ensures c.args.out.now c.requires.4, stream-long c.args.esds c.args.url.now c.args.info.now c.args.sl.now c.requires.3 c.args.n c.args.first c.args.second _ c.requires.0 c.requires.1 c.requires.2 c.length_size-at.ensures c.args.out.now c.requires.4 _ _ _ _ c.put_head.ensures c.put.ensures, same-long _ _ (decoder_bytes c.args.esds.decoder c.args.info.now) _ c.put_decoder.ensures), (sounds c.args.esds c.args.url.now c.args.info.now c.args.sl.now c.requires.3).sl-ok)
+put_sl-requires c = (
+  sl-room c.args.esds c.args.url.now c.args.info.now c.args.sl.now c.requires.1 c.args.n c.requires.0 c.args.out.now c.requires.2 _ _ c.put_head.ensures _ c.in_ok-fields.was _ _ c.put.ensures _ c.in_ok-decoder.was _ _ c.put_decoder.ensures _ c.in_ok-last.was,
+  (sounds c.args.esds c.args.url.now c.args.info.now c.args.sl.now c.requires.1).sl-ok,
+)
 
 pub returns : goal.returns
 returns c =
-    stream-put c.args.esds c.args.url.now c.args.info.now c.args.sl.now c.requires.3 c.args.n c.args.first c.args.second _ c.requires.0 c.requires.1 c.requires.2 c.length_size-at.ensures c.args.out.now c.requires.4 _ _ _ _ _ _ c.put_head.ensures c.put.ensures c.put_decoder.ensures c.put_sl.ensures
+    stream-put c.args.esds c.args.url.now c.args.info.now c.args.sl.now c.requires.1 c.args.n c.requires.0 c.args.out.now c.requires.2 _ _ c.put_head.ensures _ c.in_ok-fields.was _ _ c.put.ensures _ c.in_ok-decoder.was _ _ c.put_decoder.ensures _ c.in_ok-last.was _ _ c.put_sl.ensures

@@ -8,7 +8,7 @@ returns-in_default c =
 
 pub loop-i-preserved : goal.loop-i-preserved
 loop-i-preserved c =
-    run-next c.args.file.now c.args.track c.args.at c.args.runs.now c.args.to c.loop-i.i c.loop-i.last c.loop-i.so_far _ c.loop-i.invariant _ c.row.ensures c.loop-i-test.true _ c.in-Is.is _ c.step-walk.ensures
+    run-next c.args.file.now c.args.track c.args.at c.args.runs.now c.args.to c.loop-i.i c.loop-i.last c.loop-i.so_far _ c.loop-i.invariant _ c.row.ensures c.loop-i-test.true _ c.in-Some.is _ c.step-walk.ensures
 
 pub returns : goal.returns
 returns c =

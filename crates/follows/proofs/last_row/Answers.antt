@@ -11,8 +11,8 @@ returns-in_default c =
 
 pub returns-then-next-rows : goal.returns-then-next-rows
 returns-then-next-rows c =
-    last-next c.args.moofs.now c.args.n c.args.i c.args.rows _ c.row.ensures c.if-n-i.false _ c.in-Is.is c.if-next-rows.true
+    last-next c.args.moofs.now c.args.n c.args.i c.args.rows _ c.row.ensures c.if-n-i.false _ c.in-Some.is c.if-next-rows.true
 
 pub returns : goal.returns
 returns c =
-    last-cut c.args.moofs.now c.args.n c.args.i c.args.rows _ c.row.ensures c.if-n-i.false _ c.in-Is.is c.if-next-rows.false
+    last-cut c.args.moofs.now c.args.n c.args.i c.args.rows _ c.row.ensures c.if-n-i.false _ c.in-Some.is c.if-next-rows.false

@@ -11,14 +11,6 @@ pub loop-j-init : goal.loop-j-init
 loop-j-init c =
     (omega arith, omega arith, sym (sum-none (λ k. one (stands (boxes c.args.starts.now c.args.sizes.now c.args.kinds.now c.args.parents.now c.args.placed.now) c.args.kind k))))
 
-pub overflow_add-n : goal.overflow_add-n
-overflow_add-n c =
-    omega (arith, one-most (stands (boxes c.args.starts.now c.args.sizes.now c.args.kinds.now c.args.parents.now c.args.placed.now) c.args.kind c.loop-j.j), c.one-n.ensures, ap one c.stands.ensures)
-
 pub loop-j-preserved : goal.loop-j-preserved
 loop-j-preserved c =
     (omega arith, omega (arith, one-most (stands (boxes c.args.starts.now c.args.sizes.now c.args.kinds.now c.args.parents.now c.args.placed.now) c.args.kind c.loop-j.j), c.one-n.ensures, ap one c.stands.ensures), ap₂ (λ (n k : ℕ). n + k) c.loop-j.invariant.2 (c.one-n.ensures ∙ ap one c.stands.ensures) ∙ sym (sum-next (λ k. one (stands (boxes c.args.starts.now c.args.sizes.now c.args.kinds.now c.args.parents.now c.args.placed.now) c.args.kind k)) c.loop-j.j))
-
-pub returns : goal.returns
-returns c =
-    c.loop-j.invariant.2 ∙ ap (sum (λ k. one (stands (boxes c.args.starts.now c.args.sizes.now c.args.kinds.now c.args.parents.now c.args.placed.now) c.args.kind k))) (let z : c.loop-j.j ≡ c.args.i = omega arith in z)

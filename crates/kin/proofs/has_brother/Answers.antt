@@ -18,7 +18,3 @@ returns-then-brother c =
 pub loop-j-preserved : goal.loop-j-preserved
 loop-j-preserved c =
     (omega arith, some_next (brother (boxes c.args.starts.now c.args.sizes.now c.args.kinds.now c.args.parents.now c.args.placed.now) c.args.i) c.loop-j.j c.loop-j.invariant.1 (sym c.brother.ensures ∙ c.if-brother.false))
-
-pub returns : goal.returns
-returns c =
-    sym (ap (some (brother (boxes c.args.starts.now c.args.sizes.now c.args.kinds.now c.args.parents.now c.args.placed.now) c.args.i)) (let z : c.args.i ≡ c.loop-j.j = omega arith in z) ∙ c.loop-j.invariant.1)

@@ -5,10 +5,6 @@ use Rattle.layout.specs.Write.{encode}
 use Rattle.layout.proofs.Writes.{not_made, too_long, too_small, all_placed, coded-length, part_length}
 use Rattle.layout_write.proofs.by.Goals as goal
 
-pub returns-then-not-coded : goal.returns-then-not-coded
-returns-then-not-coded c =
-    not_made c.args.kind c.args.tail.now c.args.buf.now c.code-coded.result (encode c.args.row c.args.values 0 0 0) c.code-coded.ensures.0 (not-true c.code-coded.result.ok c.if-not-coded.true)
-
 pub returns-then-len-tail : goal.returns-then-len-tail
 returns-then-len-tail c =
     too_long c.args.kind c.args.tail.now c.args.buf.now c.code-coded.result (encode c.args.row c.args.values 0 0 0) c.code-coded.ensures.0 (not-false c.code-coded.result.ok c.if-not-coded.false) c.code-coded.ensures.1 c.if-len-tail.true
@@ -16,14 +12,6 @@ returns-then-len-tail c =
 pub returns-then-buf-total : goal.returns-then-buf-total
 returns-then-buf-total c =
     too_small c.args.kind c.args.tail.now c.args.buf.now c.code-coded.result (encode c.args.row c.args.values 0 0 0) c.code-coded.ensures.0 (not-false c.code-coded.result.ok c.if-not-coded.false) c.code-coded.ensures.1 c.if-len-tail.false c.if-buf-total.true
-
-pub slice_bounds-bytes-end : goal.slice_bounds-bytes-end
-slice_bounds-bytes-end c =
-    omega (arith, coded-length c.code-coded.result (encode c.args.row c.args.values 0 0 0) c.code-coded.ensures.0, c.code-coded.ensures.1)
-
-pub slice_bounds-part-end : goal.slice_bounds-part-end
-slice_bounds-part-end c =
-    sym (part_length c.code-coded.result (encode c.args.row c.args.values 0 0 0) c.code-coded.ensures.0 c.code-coded.ensures.1)
 
 pub returns : goal.returns
 returns c =

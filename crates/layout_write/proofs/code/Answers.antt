@@ -9,10 +9,6 @@ use Rattle.layout.proofs.Cases.{width_of, laid, too-low, too-high, further, all_
 use Rattle.layout_write.proofs.code.Goals as goal
 use Rattle.layout_write.proofs.code.Goals.{else-r, then-r}
 
-pub loop-i-init : goal.loop-i-init
-loop-i-init c =
-    (refl, omega arith, omega arith, omega arith, refl)
-
 pub returns-then-x-r : goal.returns-then-x-r
 returns-then-x-r c =
     (c.uncoded.ensures ∙ too-low c.args.row _ c.args.values c.loop-i.i c.loop-i.slot c.loop-i.version c.loop-i.flags c.loop-i.bytes c.loop-i.len c.rule_of-r.result c.choose-x.result (search rules) c.rule_of-r.ensures c.choose-x.ensures c.if-x-r.true ∙ c.loop-i.invariant.0, omega (arith, ap (λ r. r.len) c.uncoded.ensures))

@@ -3,10 +3,6 @@ use mathlib.Core.Path.{refl, ◌∙◌}
 use Rattle.lists.proofs.Held.{low_end, low-more, low-stop}
 use Rattle.lists.proofs.all_low.Goals as goal
 
-pub loop-i-init : goal.loop-i-init
-loop-i-init c =
-    refl
-
 pub returns-then-at-ge-HALF : goal.returns-then-at-ge-HALF
 returns-then-at-ge-HALF c =
     low-stop c.args.file.now c.args.t c.loop-i.i _ c.loop-i-test.true c.offset_at-at.ensures c.if-at-ge-HALF.true ∙ c.loop-i.invariant

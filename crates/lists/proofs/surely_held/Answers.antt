@@ -5,10 +5,6 @@ use Rattle.tables.specs.Tables.{chunks}
 use Rattle.lists.proofs.Held.{below-low, narrow_below, surely, says_nothing}
 use Rattle.lists.proofs.surely_held.Goals as goal
 
-pub returns-then-sizes-gt-MANY : goal.returns-then-sizes-gt-MANY
-returns-then-sizes-gt-MANY c =
-    says_nothing
-
 pub returns-then-places : goal.returns-then-places
 returns-then-places c =
     λ e. surely _ c.args.track (λ (i : ℕ). omega (arith, c.shared_slice_known-1.given i)) (omega (arith, c.well_formed.1.0.1)) c.if-sizes-gt-MANY.false (below-low (chunks c.args.file.now c.args.track.stco) (sym c.all_low.ensures ∙ e))

@@ -6,19 +6,19 @@ use Rattle.locate.proofs.sample.Goals as goal
 
 pub returns-then-number-eq0 : goal.returns-then-number-eq0
 returns-then-number-eq0 c =
-    zero-absent (samples_of c.args.file.now c.args.track) _ _ c.absent.ensures c.if-number-eq0.true
+    zero-absent (samples_of c.args.file.now c.args.track) _ c.if-number-eq0.true
 
 pub returns-then-uncounted : goal.returns-then-uncounted
 returns-then-uncounted c =
-    past-absent (samples_of c.args.file.now c.args.track) _ _ c.absent-then-uncounted.ensures c.if-number-eq0.false (no_size c.args.file.now c.args.track _ c.if-number-eq0.false (leb-true _ _ (sym c.uncounted.ensures ∙ c.if-uncounted.true)))
+    past-absent (samples_of c.args.file.now c.args.track) _ c.if-number-eq0.false (no_size c.args.file.now c.args.track _ c.if-number-eq0.false (leb-true _ _ (sym c.uncounted.ensures ∙ c.if-uncounted.true)))
 
 pub returns-in_default : goal.returns-in_default
 returns-in_default c =
-    past-absent (samples_of c.args.file.now c.args.track) _ _ c.absent-in_default.ensures c.if-number-eq0.false (no-time c.args.file.now c.args.track _ c.if-number-eq0.false _ c.pairs.ensures _ c.value_at.ensures _ c.in_default.is)
+    past-absent (samples_of c.args.file.now c.args.track) _ c.if-number-eq0.false (no-time c.args.file.now c.args.track _ c.if-number-eq0.false _ c.pairs.ensures _ c.value_at.ensures _ c.in_default.is)
 
 pub returns-in_default-chunk_at : goal.returns-in_default-chunk_at
 returns-in_default-chunk_at c =
-    past-absent (samples_of c.args.file.now c.args.track) _ _ c.absent-in_default-chunk_at.ensures c.if-number-eq0.false (no_place c.args.file.now c.args.track _ c.if-number-eq0.false _ c.pairs.ensures _ c.value_at.ensures _ _ c.in-At.is _ c.groups.ensures _ c.chunk_at.ensures _ c.in_default-chunk_at.is)
+    past-absent (samples_of c.args.file.now c.args.track) _ c.if-number-eq0.false (no_place c.args.file.now c.args.track _ c.if-number-eq0.false _ c.pairs.ensures _ c.value_at.ensures _ _ c.in-At.is _ c.groups.ensures _ c.chunk_at.ensures _ c.in_default-chunk_at.is)
 
 pub overflow_sub-k-2 : goal.overflow_sub-k-2
 overflow_sub-k-2 c =

@@ -8,4 +8,4 @@ returns-in_default c =
 
 pub returns : goal.returns
 returns c =
-    moof-begins c.args.s.now (boxes c.args.starts.now c.args.sizes.now c.args.kinds.now c.args.parents.now c.args.placed.now) c.args.n c.args.j c.args.state c.args.runs.now c.args.moofs.now _ c.head.ensures _ _ _ c.in-Is.is c.store.ensures
+    moof-begins c.args.s.now (boxes c.args.starts.now c.args.sizes.now c.args.kinds.now c.args.parents.now c.args.placed.now) c.args.n c.args.j c.args.state c.args.runs.now c.args.moofs.now _ c.head.ensures _ _ _ c.in-Ok.is c.store.ensures

@@ -1,8 +1,9 @@
+use Rattle.std.specs.Prelude.{Option}
 use mathlib.Core.Path.{sym, ap}
-use Rattle.verdicts.specs.declared.Asked.{Asked}
 use Rattle.movie.specs.Inside.{or_asked}
 use Rattle.movie.proofs.or_else.Goals as goal
+use Rattle.verdicts.specs.declared.Finding.{Finding}
 
-pub returns-in-Found : goal.returns-in-Found
-returns-in-Found c =
-    ap (λ (a : Asked). or_asked a c.args.second) (sym c.in-Found.is)
+pub returns-in-Some : goal.returns-in-Some
+returns-in-Some c =
+    ap (λ (a : Option Finding). or_asked a c.args.second) (sym c.in-Some.is)

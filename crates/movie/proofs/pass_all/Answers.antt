@@ -27,10 +27,10 @@ pub loop-i-preserved : goal.loop-i-preserved
 loop-i-preserved c =
     let a : c.loop-i.i < length c.args.numbers = omega (arith, c.well_formed.1.0, c.few-end.ensures) in let b : c.loop-i.i < length c.args.tracks = omega (arith, c.well_formed.1.1.0, c.few-end.ensures) in let k : c.loop-i.i < c.args.count = omega (arith, c.few-end.ensures) in goes-found c.args.fragmented c.args.file.now (rows_of c.args.runs.now c.args.rows) c.args.numbers c.args.tracks c.args.count c.loop-i.i c.loop-i.total c.loop-i.first c.loop-i.invariant _ k a b _ c.pass.ensures.answer _ _ c.in-Found.is c.either-first.ensures
 
-pub returns-in-Passes : goal.returns-in-Passes
-returns-in-Passes c =
-    ends-fine c.args.fragmented c.args.file.now (rows_of c.args.runs.now c.args.rows) c.args.numbers c.args.tracks c.args.count c.loop-i.i c.loop-i.total c.loop-i.first c.loop-i.invariant (omega (arith, c.well_formed.1.0)) (omega (arith, c.well_formed.1.1.0)) (omega (arith, c.few-end.ensures)) c.in-Passes.is
+pub returns-in-None : goal.returns-in-None
+returns-in-None c =
+    ends-fine c.args.fragmented c.args.file.now (rows_of c.args.runs.now c.args.rows) c.args.numbers c.args.tracks c.args.count c.loop-i.i c.loop-i.total c.loop-i.first c.loop-i.invariant (omega (arith, c.well_formed.1.0)) (omega (arith, c.well_formed.1.1.0)) (omega (arith, c.few-end.ensures)) c.in-None.is
 
-pub returns-in-Found-first : goal.returns-in-Found-first
-returns-in-Found-first c =
-    ends_found c.args.fragmented c.args.file.now (rows_of c.args.runs.now c.args.rows) c.args.numbers c.args.tracks c.args.count c.loop-i.i c.loop-i.total c.loop-i.first c.loop-i.invariant (omega (arith, c.well_formed.1.0)) (omega (arith, c.well_formed.1.1.0)) (omega (arith, c.few-end.ensures)) _ c.in-Found-first.is
+pub returns-in-Some : goal.returns-in-Some
+returns-in-Some c =
+    ends_found c.args.fragmented c.args.file.now (rows_of c.args.runs.now c.args.rows) c.args.numbers c.args.tracks c.args.count c.loop-i.i c.loop-i.total c.loop-i.first c.loop-i.invariant (omega (arith, c.well_formed.1.0)) (omega (arith, c.well_formed.1.1.0)) (omega (arith, c.few-end.ensures)) _ c.in-Some.is

@@ -22,14 +22,6 @@ unfolding in_file
 returns-then-child-eq0-2 c =
     present _ _ _ _ _ _ c.child.ensures c.if-child-eq0.false (present _ _ _ _ _ _ c.child-moov.ensures c.if-moov-eq0.false (lacking _ _ _ _ _ _ (c.child-2.ensures ∙ ap (child (boxes c.args.starts.now c.args.sizes.now c.args.kinds.now c.args.parents.now c.args.placed.now) c.args.n mvhd) c.child-moov.ensures) c.if-child-eq0-2.true))
 
-pub in_traks-track-requires : goal.in_traks-track-requires
-in_traks-track-requires c =
-    c.requires
-
-pub in_moofs-fragment-requires : goal.in_moofs-fragment-requires
-in_moofs-fragment-requires c =
-    c.requires
-
 pub returns : goal.returns
 unfolding in_file
 returns c =

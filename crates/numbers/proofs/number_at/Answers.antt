@@ -1,21 +1,18 @@
-use mathlib.Core.Path.{refl, ap}
-use native.Mathlib.Omega.{arith}
-use Rattle.numbers.specs.declared.U64.TheVariants.{Refused}
-use Rattle.numbers.proofs.Chain.{is_le, not-le, whole, ends}
+use Rattle.std.proofs.Common.{◌<◌, ◌+◌, ◌-◌, arith}
+use Rattle.numbers.proofs.Laws.{snoc_at, room_for_more, part_byte}
 use Rattle.numbers.proofs.number_at.Goals as goal
 
-pub returns-then-w-gt8 : goal.returns-then-w-gt8
-returns-then-w-gt8 c =
-    not-le _ _ _ _ _ c.if-w-gt8.true refl
+pub overflow_mul-n : goal.overflow_mul-n
+overflow_mul-n c =
+    omega (arith, (room_for_more c.loop-byte.byte-index c.loop-byte.n 0 c.loop-byte.invariant.1 (omega arith) (omega arith)).0)
 
-pub returns-then-s-at : goal.returns-then-s-at
-returns-then-s-at c =
-    is_le _ _ _ _ _ c.if-w-gt8.false (ends c.args.w c.args.s.now c.args.at _ _ _ (omega arith) (ap Refused c.cut.ensures))
+pub overflow_add-n : goal.overflow_add-n
+overflow_add-n c =
+    omega (arith, (room_for_more c.loop-byte.byte-index c.loop-byte.n c.from.result c.loop-byte.invariant.1 (omega arith) (omega arith)).0)
 
-pub returns-then-s-at-2 : goal.returns-then-s-at-2
-returns-then-s-at-2 c =
-    is_le _ _ _ _ _ c.if-w-gt8.false (ends c.args.w c.args.s.now c.args.at _ _ _ (omega arith) (ap Refused c.cut-then-s-at-2.ensures))
-
-pub returns : goal.returns
-returns c =
-    is_le _ _ _ _ _ c.if-w-gt8.false (whole c.args.w c.args.s.now c.args.at _ _ _ _ (omega arith) c.raw.ensures refl)
+pub loop-byte-preserved : goal.loop-byte-preserved
+loop-byte-preserved c =
+    let i = c.loop-byte.byte-index in
+    let next = snoc_at (i + 1) i (c.args.at + i) c.args.s.now c.args.at (omega arith) (omega arith) in
+    let byte = part_byte (c.args.at + c.args.w - c.args.at) c.args.at i c.args.s.now (omega arith) in
+    (grind (arith, next, byte), (room_for_more i c.loop-byte.n c.from.result c.loop-byte.invariant.1 (omega arith) (omega arith)).1)

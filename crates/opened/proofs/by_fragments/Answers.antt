@@ -1,4 +1,7 @@
-use mathlib.Core.Path.{refl}
+use mathlib.Core.Path.{ap, ◌∙◌}
+use Rattle.std.specs.Prelude.{Err}
+use Rattle.std.proofs.lemmas.Result.{err_from_is_err_and}
+use Rattle.samples.specs.Records.{output}
 use Rattle.kin.specs.Kin.{boxes}
 use Rattle.audit.proofs.Recorded.{full}
 use Rattle.opened.proofs.Told.{not-filled, by-fragments}
@@ -12,10 +15,11 @@ pub slice_bounds-fill-end-2 : goal.slice_bounds-fill-end-2
 slice_bounds-fill-end-2 c =
     full 12288 0
 
-pub returns-in-Refused : goal.returns-in-Refused
-returns-in-Refused c =
-    not-filled c.args.file.now (boxes c.args.starts.now c.args.sizes.now c.args.kinds.now c.args.parents.now c.args.placed.now) c.args.n c.args.place _ _ _ _ _ _ c.fill.ensures _ c.in-Refused.is refl
+pub returns-in_err-filled : goal.returns-in_err-filled
+returns-in_err-filled c =
+    let p = err_from_is_err_and c.from_residual.result c.from_residual.ensures.1 in
+    not-filled c.args.file.now (boxes c.args.starts.now c.args.sizes.now c.args.kinds.now c.args.parents.now c.args.placed.now) c.args.n c.args.place _ _ _ _ _ _ c.fill.ensures _ c.in_err-filled.was (ap (λ r. output r c.args.out.now) (p.1 ∙ ap Err p.2))
 
-pub returns-in-Are : goal.returns-in-Are
-returns-in-Are c =
-    by-fragments c.args.file.now (boxes c.args.starts.now c.args.sizes.now c.args.kinds.now c.args.parents.now c.args.placed.now) c.args.n c.args.place _ _ _ _ _ _ c.fill.ensures _ _ c.in-Are.is c.by_trak.ensures
+pub returns : goal.returns
+returns c =
+    by-fragments c.args.file.now (boxes c.args.starts.now c.args.sizes.now c.args.kinds.now c.args.parents.now c.args.placed.now) c.args.n c.args.place _ _ _ _ _ _ c.fill.ensures _ c.in_ok-filled.was c.by_trak.ensures

@@ -6,10 +6,6 @@ pub returns-then-t-ne0 : goal.returns-then-t-ne0
 returns-then-t-ne0 c =
     sized-common c.args.file.now c.args.t c.args.n c.if-t-ne0.true
 
-pub loop-i-init : goal.loop-i-init
-loop-i-init c =
-    sized-starts c.args.file.now c.args.t c.args.n
-
 pub returns-then-size-eq0 : goal.returns-then-size-eq0
 returns-then-size-eq0 c =
     sized-here c.args.file.now c.args.t c.args.n c.loop-i.i c.loop-i.invariant c.if-t-ne0.false c.loop-i-test.true _ c.four-size.ensures c.if-size-eq0.true

@@ -3,14 +3,6 @@ use native.Mathlib.Omega.{arith}
 use Rattle.passes.proofs.Zeros.{lasting-starts, lasting-none, lasting-here, lasting-all, lasting-on}
 use Rattle.passes.proofs.before_idle.Goals as goal
 
-pub loop-i-init : goal.loop-i-init
-loop-i-init c =
-    lasting-starts c.args.file.now c.args.t c.args.n
-
-pub overflow_sub-result : goal.overflow_sub-result
-overflow_sub-result c =
-    omega (arith, c.loop-i.invariant.within)
-
 pub returns-then-idle : goal.returns-then-idle
 returns-then-idle c =
     lasting-here c.args.file.now c.args.t c.args.n c.loop-i.i c.loop-i.left c.loop-i.invariant c.loop-i-test.true _ c.pairs-rows.ensures _ c.entry-e.ensures c.if-idle.true

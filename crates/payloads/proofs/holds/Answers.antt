@@ -6,10 +6,6 @@ use Rattle.payloads.specs.Payloads.{payloads_in}
 use Rattle.payloads.proofs.Steps.{in-none, in-here, in-further}
 use Rattle.payloads.proofs.holds.Goals as goal
 
-pub loop-j-init : goal.loop-j-init
-loop-j-init c =
-    refl
-
 pub returns-then-holds_at : goal.returns-then-holds_at
 returns-then-holds_at c =
     in-here _ _ _ _ _ _ c.loop-j-test.true c.holds_at.ensures c.if-holds_at.true ∙ c.loop-j.invariant ∙ ap (λ k. in_some c.args.b (payloads_in c.args.s.now (boxes c.args.starts.now c.args.sizes.now c.args.kinds.now c.args.parents.now c.args.placed.now) (k - 0) 0)) c.rows-end.ensures

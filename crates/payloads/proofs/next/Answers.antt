@@ -5,10 +5,6 @@ use Rattle.payloads.specs.Payloads.{next_in}
 use Rattle.payloads.proofs.Steps.{over, here, further}
 use Rattle.payloads.proofs.next.Goals as goal
 
-pub loop-j-init : goal.loop-j-init
-loop-j-init c =
-    refl
-
 pub returns-then-is_media : goal.returns-then-is_media
 returns-then-is_media c =
     here _ _ _ _ _ c.loop-j-test.true c.is_media.ensures _ _ c.if-is_media.true c.from.ensures c.to.ensures ∙ c.loop-j.invariant ∙ ap (λ k. next_in c.args.s.now (boxes c.args.starts.now c.args.sizes.now c.args.kinds.now c.args.parents.now c.args.placed.now) (k - c.args.i) c.args.i) c.rows-end.ensures

@@ -6,10 +6,6 @@ use Rattle.numbers.proofs.Laws.{pow_pos}
 use Rattle.put.proofs.Stores.{stored, none_left}
 use Rattle.put.proofs.store.Goals as goal
 
-pub loop-left-init : goal.loop-left-init
-loop-left-init c =
-    (refl, refl, omega arith, refl)
-
 pub nonzero_div-buf : goal.nonzero_div-buf
 nonzero_div-buf c =
     omega (arith, c.power.ensures, pow_pos (c.loop-left.left - 1))
@@ -17,10 +13,6 @@ nonzero_div-buf c =
 pub loop-left-preserved : goal.loop-left-preserved
 loop-left-preserved c =
     (stored c.loop-left.buf c.loop-left.left c.loop-left.p c.args.n c.power.result c.loop-left-test.true c.power.ensures ∙ c.loop-left.invariant.0, omega arith, omega arith, simp length-set c.loop-left.invariant.3)
-
-pub shape_of-buf : goal.shape_of-buf
-shape_of-buf c =
-    c.loop-left.invariant.3
 
 pub returns : goal.returns
 returns c =

@@ -4,24 +4,20 @@ use native.Mathlib.Omega.{arith}
 use Rattle.record.proofs.Columns.{no_size, no-duration, refused, taken}
 use Rattle.record.proofs.all.Goals as goal
 
-pub loop-i-init : goal.loop-i-init
-loop-i-init c =
-    refl
-
 pub returns-then-durations-i : goal.returns-then-durations-i
 returns-then-durations-i c =
     no-duration c.loop-i.sum c.args.sizes.now c.args.durations.now c.loop-i.i c.loop-i-test.true c.if-durations-i.true ∙ c.loop-i.invariant
 
-pub returns-in-Refused : goal.returns-in-Refused
-returns-in-Refused c =
+pub returns-in-Err : goal.returns-in-Err
+returns-in-Err c =
     refused c.loop-i.sum c.args.sizes.now c.args.durations.now c.loop-i.i c.loop-i-test.true (omega (arith, c.if-durations-i.false))
-    c.grown.result c.grown.ensures c.in-Refused.q c.in-Refused.is
+    c.grown.result c.grown.ensures c.in-Err.q c.in-Err.is
     ∙ c.loop-i.invariant
 
 pub loop-i-preserved : goal.loop-i-preserved
 loop-i-preserved c =
     taken c.loop-i.sum c.args.sizes.now c.args.durations.now c.loop-i.i c.loop-i-test.true (omega (arith, c.if-durations-i.false))
-    c.grown.result c.grown.ensures c.in-Is.n c.in-Is.is
+    c.grown.result c.grown.ensures c.in-Ok.n c.in-Ok.is
     ∙ c.loop-i.invariant
 
 pub returns : goal.returns

@@ -5,12 +5,12 @@ use Rattle.runlists.proofs.list.Goals as goal
 
 pub returns-in_default : goal.returns-in_default
 returns-in_default c =
-    list_over (samples_of_runs c.args.file.now (rows_of c.args.table.now c.args.n) c.args.track) _ _ c.refuse.ensures (told_over (samples_of_runs c.args.file.now (rows_of c.args.table.now c.args.n) c.args.track) _ c.count.ensures c.in_default.is)
+    list_over (samples_of_runs c.args.file.now (rows_of c.args.table.now c.args.n) c.args.track) _ (told_over (samples_of_runs c.args.file.now (rows_of c.args.table.now c.args.n) c.args.track) _ c.count.ensures c.in_default.is)
 
 pub returns-then-out-many : goal.returns-then-out-many
 returns-then-out-many c =
-    list-small (samples_of_runs c.args.file.now (rows_of c.args.table.now c.args.n) c.args.track) _ _ _ c.refuse-then-out-many.ensures (told (samples_of_runs c.args.file.now (rows_of c.args.table.now c.args.n) c.args.track) _ _ c.count.ensures c.in-Is.is) c.if-out-many.true
+    list-small (samples_of_runs c.args.file.now (rows_of c.args.table.now c.args.n) c.args.track) _ _ (told (samples_of_runs c.args.file.now (rows_of c.args.table.now c.args.n) c.args.track) _ _ c.count.ensures c.in-Some.is) c.if-out-many.true
 
 pub returns : goal.returns
 returns c =
-    lists-all (samples_of_runs c.args.file.now (rows_of c.args.table.now c.args.n) c.args.track) _ _ _ c.fill.ensures.records (told (samples_of_runs c.args.file.now (rows_of c.args.table.now c.args.n) c.args.track) _ _ c.count.ensures c.in-Is.is) c.if-out-many.false
+    lists-all (samples_of_runs c.args.file.now (rows_of c.args.table.now c.args.n) c.args.track) _ _ _ c.fill.ensures.records (told (samples_of_runs c.args.file.now (rows_of c.args.table.now c.args.n) c.args.track) _ _ c.count.ensures c.in-Some.is) c.if-out-many.false

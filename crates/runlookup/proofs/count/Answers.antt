@@ -6,29 +6,17 @@ use Rattle.runlookup.proofs.Rows.{row_here, row-past, rows-past}
 use Rattle.fragments.specs.Samples.{count_of, count_in}
 use Rattle.runlookup.proofs.count.Goals as goal
 
-pub loop-i-init : goal.loop-i-init
-loop-i-init c =
-    (omega arith, omega arith)
-
 pub returns-in_default : goal.returns-in_default
 returns-in_default c =
     sum-all (count_of c.args.track) (count_in c.args.track) refl (λ r rs. refl) _ _ _ c.loop-i.invariant.0 (row-past c.args.table.now c.args.n c.loop-i.i _ c.row.ensures c.in_default.is) c.loop-i.invariant.1
 
-pub overflow_sub-many : goal.overflow_sub-many
-overflow_sub-many c =
-    omega (arith, c.loop-i.invariant.1)
-
 pub returns-then-many-more : goal.returns-then-many-more
 returns-then-many-more c =
-    sum_over (count_of c.args.track) (count_in c.args.track) refl (λ r rs. refl) _ _ _ c.loop-i.invariant.0 _ _ (row_here c.args.table.now c.args.n c.loop-i.i _ c.row.ensures c.loop-i-test.true _ c.in-Is.is) _ c.count_of-more.ensures (omega (arith, c.if-many-more.true, c.loop-i.invariant.1))
-
-pub overflow_add-many : goal.overflow_add-many
-overflow_add-many c =
-    omega (arith, c.if-many-more.false, c.loop-i.invariant.1)
+    sum_over (count_of c.args.track) (count_in c.args.track) refl (λ r rs. refl) _ _ _ c.loop-i.invariant.0 _ _ (row_here c.args.table.now c.args.n c.loop-i.i _ c.row.ensures c.loop-i-test.true _ c.in-Some.is) _ c.count_of-more.ensures (omega (arith, c.if-many-more.true, c.loop-i.invariant.1))
 
 pub loop-i-preserved : goal.loop-i-preserved
 loop-i-preserved c =
-    (sum-on (count_of c.args.track) (count_in c.args.track) refl (λ r rs. refl) _ _ _ c.loop-i.invariant.0 _ _ (row_here c.args.table.now c.args.n c.loop-i.i _ c.row.ensures c.loop-i-test.true _ c.in-Is.is) _ c.count_of-more.ensures, omega (arith, c.if-many-more.false, c.loop-i.invariant.1))
+    (sum-on (count_of c.args.track) (count_in c.args.track) refl (λ r rs. refl) _ _ _ c.loop-i.invariant.0 _ _ (row_here c.args.table.now c.args.n c.loop-i.i _ c.row.ensures c.loop-i-test.true _ c.in-Some.is) _ c.count_of-more.ensures, omega (arith, c.if-many-more.false, c.loop-i.invariant.1))
 
 pub returns : goal.returns
 returns c =

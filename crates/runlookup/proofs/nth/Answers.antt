@@ -27,7 +27,3 @@ returns-in-End c =
 pub loop-i-preserved : goal.loop-i-preserved
 loop-i-preserved c =
     (walk-on c.args.file.now c.args.run c.args.earlier c.loop-i.lane c.loop-i.i c.args.index c.loop-i.invariant.0 c.next.result c.next.ensures.sample c.loop-i-test.true c.if-trun-index.false _ _ c.in-One.is, omega (arith, c.loop-i-test.true))
-
-pub returns : goal.returns
-returns c =
-    c.next-2.ensures.sample ∙ ap view c.loop-i.invariant.0 ∙ ap (λ k. view (drop k (run_samples c.args.file.now c.args.run c.args.earlier))) (le_antisymm c.loop-i.invariant.1 c.loop-i-test.false)

@@ -8,25 +8,17 @@ use Rattle.runlookup.specs.Lookup.{place_in}
 use Rattle.runtable.specs.Table.{rows_of}
 use Rattle.runlookup.proofs.place_of.Goals as goal
 
-pub loop-i-init : goal.loop-i-init
-loop-i-init c =
-    (ap (λ b. place_in c.args.track b c.args.skip (rows_of c.args.table.now c.args.n)) (sub_self c.args.skip), omega arith)
-
 pub returns-in_default : goal.returns-in_default
 returns-in_default c =
     walk_none c.args.track c.args.skip c.loop-i.left _ _ c.loop-i.invariant.0 (row-past c.args.table.now c.args.n c.loop-i.i _ c.row.ensures c.in_default.is)
 
-pub overflow_sub-result : goal.overflow_sub-result
-overflow_sub-result c =
-    omega (arith, c.loop-i.invariant.1)
-
 pub returns-then-left-own : goal.returns-then-left-own
 returns-then-left-own c =
-    walk_here c.args.track c.args.skip c.loop-i.left _ _ c.loop-i.invariant.0 _ _ (row_here c.args.table.now c.args.n c.loop-i.i _ c.row.ensures c.loop-i-test.true _ c.in-Is.is) _ c.count_of-own.ensures c.if-left-own.true
+    walk_here c.args.track c.args.skip c.loop-i.left _ _ c.loop-i.invariant.0 _ _ (row_here c.args.table.now c.args.n c.loop-i.i _ c.row.ensures c.loop-i-test.true _ c.in-Some.is) _ c.count_of-own.ensures c.if-left-own.true
 
 pub loop-i-preserved : goal.loop-i-preserved
 loop-i-preserved c =
-    (walk-later c.args.track c.args.skip c.loop-i.left _ _ c.loop-i.invariant.0 _ _ (row_here c.args.table.now c.args.n c.loop-i.i _ c.row.ensures c.loop-i-test.true _ c.in-Is.is) _ c.count_of-own.ensures c.if-left-own.false c.loop-i.invariant.1, omega (arith, c.loop-i.invariant.1))
+    (walk-later c.args.track c.args.skip c.loop-i.left _ _ c.loop-i.invariant.0 _ _ (row_here c.args.table.now c.args.n c.loop-i.i _ c.row.ensures c.loop-i-test.true _ c.in-Some.is) _ c.count_of-own.ensures c.if-left-own.false c.loop-i.invariant.1, omega (arith, c.loop-i.invariant.1))
 
 pub returns : goal.returns
 returns c =

@@ -27,10 +27,6 @@ pub overflow_add-i : goal.overflow_add-i
 overflow_add-i c =
     omega (arith, few c.args.file.now (rows_of c.args.table.now c.args.n) c.args.track _ c.loop-sample.so c.loop-sample.idle c.loop-sample.i c.loop-sample.invariant _ _ (at_one c.args.file.now (rows_of c.args.table.now c.args.n) c.args.track c.loop-sample.lane _ c.next.ensures _ _ c.in-One.is))
 
-pub loop-sample-smaller : goal.loop-sample-smaller
-loop-sample-smaller c =
-    fewer c.args.file.now (rows_of c.args.table.now c.args.n) c.args.track _ c.loop-sample.so c.loop-sample.idle c.loop-sample.i c.loop-sample.invariant _ _ (at_one c.args.file.now (rows_of c.args.table.now c.args.n) c.args.track c.loop-sample.lane _ c.next.ensures _ _ c.in-One.is)
-
 pub loop-sample-preserved : goal.loop-sample-preserved
 loop-sample-preserved c =
     passing-on c.args.file.now (rows_of c.args.table.now c.args.n) c.args.track _ c.loop-sample.so c.loop-sample.idle c.loop-sample.i c.loop-sample.invariant _ _ (at_one c.args.file.now (rows_of c.args.table.now c.args.n) c.args.track c.loop-sample.lane _ c.next.ensures _ _ c.in-One.is) _ c.after_sample-so.ensures

@@ -3,12 +3,12 @@ use Rattle.trun.specs.Trun.{entry_of}
 use Rattle.runs.specs.Values.{own_of, or_zeros}
 use Rattle.runs.proofs.own.Goals as goal
 
-pub returns-in-Is : goal.returns-in-Is
+pub returns-in-Ok : goal.returns-in-Ok
 unfolding own_of
-returns-in-Is c =
-    ap or_zeros (sym c.in-Is.is ∙ c.entry.ensures ∙ ap (λ b. entry_of c.args.run.trun b c.args.i) c.from.ensures)
+returns-in-Ok c =
+    ap or_zeros (sym c.in-Ok.is ∙ c.entry.ensures ∙ ap (λ b. entry_of c.args.run.trun b c.args.i) c.from.ensures)
 
-pub returns-in-Refused : goal.returns-in-Refused
+pub returns-in-Err : goal.returns-in-Err
 unfolding own_of
-returns-in-Refused c =
-    ap or_zeros (sym c.in-Refused.is ∙ c.entry.ensures ∙ ap (λ b. entry_of c.args.run.trun b c.args.i) c.from.ensures)
+returns-in-Err c =
+    ap or_zeros (sym c.in-Err.is ∙ c.entry.ensures ∙ ap (λ b. entry_of c.args.run.trun b c.args.i) c.from.ensures)

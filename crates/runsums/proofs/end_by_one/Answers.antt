@@ -12,22 +12,6 @@ unfolding bytes_in
 loop-i-init c =
     (ap (λ k. c.args.from + sum_from (size_at c.args.file.now c.args.run) k 0) (sub-zero c.args.run.trun.sample_count), c.ranges.from.fits)
 
-pub overflow_sub-at : goal.overflow_sub-at
-overflow_sub-at c =
-    omega (arith, c.loop-i.invariant.1)
-
-pub returns-then-at-size : goal.returns-then-at-size
-returns-then-at-size c =
-    ends-over (c.args.from + bytes_in c.args.file.now c.args.run) (omega (arith, c.loop-i.invariant.0, c.size_at-size.ensures, sum-next (size_at c.args.file.now c.args.run) c.args.run.trun.sample_count c.loop-i.i c.loop-i-test.true))
-
-pub overflow_add-at : goal.overflow_add-at
-overflow_add-at c =
-    omega (arith, c.loop-i.invariant.1, c.if-at-size.false)
-
 pub loop-i-preserved : goal.loop-i-preserved
 loop-i-preserved c =
     (omega (arith, c.loop-i.invariant.0, c.size_at-size.ensures, sum-next (size_at c.args.file.now c.args.run) c.args.run.trun.sample_count c.loop-i.i c.loop-i-test.true), omega (arith, c.loop-i.invariant.1, c.if-at-size.false))
-
-pub returns : goal.returns
-returns c =
-    ends_at (c.args.from + bytes_in c.args.file.now c.args.run) _ (omega (arith, c.loop-i.invariant.0, sum-end (size_at c.args.file.now c.args.run) c.args.run.trun.sample_count c.loop-i.i c.loop-i-test.false)) c.loop-i.invariant.1

@@ -10,14 +10,6 @@ unfolding durations_in
 loop-i-init c =
     (sum-begins (duration_at c.args.file.now c.args.run) c.args.run.trun.sample_count, omega arith)
 
-pub overflow_add-sum : goal.overflow_add-sum
-overflow_add-sum c =
-    omega (arith, c.loop-i.invariant.1, c.loop-i-test.true, c.duration_at.type_inv)
-
 pub loop-i-preserved : goal.loop-i-preserved
 loop-i-preserved c =
     (omega (arith, c.loop-i.invariant.0, c.duration_at.ensures, sum-next (duration_at c.args.file.now c.args.run) c.args.run.trun.sample_count c.loop-i.i c.loop-i-test.true), omega (arith, c.loop-i.invariant.1, c.duration_at.type_inv))
-
-pub returns : goal.returns
-returns c =
-    omega (arith, c.loop-i.invariant.0, sum-end (duration_at c.args.file.now c.args.run) c.args.run.trun.sample_count c.loop-i.i c.loop-i-test.false)

@@ -5,10 +5,6 @@ use Rattle.runs.specs.Samples.{bytes_in}
 use Rattle.runsums.proofs.Sums.{product, bytes_same, ends_at, ends-over}
 use Rattle.runsums.proofs.reach.Goals as goal
 
-pub overflow_mul-all : goal.overflow_mul-all
-overflow_mul-all c =
-    omega (arith, product c.args.run.trun.sample_count c.args.run.size (omega (arith, c.struct_known-1.given)) (omega (arith, c.struct_known-2-1.given)))
-
 pub returns-then-from-all : goal.returns-then-from-all
 returns-then-from-all c =
     ends-over (c.args.from + bytes_in c.args.file.now c.args.run) (omega (arith, c.if-from-all.true, bytes_same c.args.file.now c.args.run (sym c.is_set.ensures ∙ c.if-is_set.false)))

@@ -22,7 +22,3 @@ overflow_add-result-4 c =
 pub overflow_add-result-5 : goal.overflow_add-result-5
 overflow_add-result-5 c =
     omega (arith, c.requires.counted, c.size-stts.ensures, few-sizes Stts c.args.timescale c.args.records.now c.args.n, c.size-ctts.ensures, few-sizes Ctts c.args.timescale c.args.records.now c.args.n, c.size-stsc.ensures, few-sizes Stsc c.args.timescale c.args.records.now c.args.n, c.size-stsz.ensures, few-sizes Stsz c.args.timescale c.args.records.now c.args.n, c.size-offsets.ensures, few-sizes Offsets c.args.timescale c.args.records.now c.args.n, c.size-stss.ensures, few-sizes Stss c.args.timescale c.args.records.now c.args.n)
-
-pub returns : goal.returns
-returns c =
-    tables-length c.args.timescale c.args.records.now c.args.n _ _ _ _ _ _ c.size-stts.ensures c.size-ctts.ensures c.size-stsc.ensures c.size-stsz.ensures c.size-offsets.ensures c.size-stss.ensures

@@ -9,4 +9,4 @@ returns-then-behind-eq0 c =
 
 pub returns : goal.returns
 returns c =
-    second-some c.args.table c.args.n c.args.out.now _ c.args.at c.u32_at.result (λ z. c.if-behind-eq0.false (c.behind.ensures ∙ z)) c.requires (omega arith) c.u32_at.ensures
+    second-some c.args.table c.args.n c.args.out.now _ c.args.at c.write.result (λ z. c.if-behind-eq0.false (c.behind.ensures ∙ z)) c.requires (omega arith) c.write.ensures

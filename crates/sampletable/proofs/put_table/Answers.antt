@@ -3,25 +3,9 @@ use native.Mathlib.Omega.{arith}
 use Rattle.sampletable.proofs.Puts.{table_none, table-some, before-room, entries-room}
 use Rattle.sampletable.proofs.put_table.Goals as goal
 
-pub returns-then-not-there : goal.returns-then-not-there
-returns-then-not-there c =
-    table_none c.args.table c.args.timescale c.args.records.now c.args.n c.args.out.now c.args.at (sym c.there.ensures ∙ c.if-not-there.true)
-
 pub put_before-begin-requires : goal.put_before-begin-requires
 put_before-begin-requires c =
     before-room c.args.table c.args.timescale c.args.records.now c.args.n c.requires.0 c.args.out.now c.args.at c.listed-bytes.result (sym c.there.ensures ∙ c.if-not-there.false) c.requires.1 c.listed-bytes.ensures
-
-pub slice_bounds-entries-count : goal.slice_bounds-entries-count
-slice_bounds-entries-count c =
-    omega (arith, (entries-room c.args.table c.args.timescale c.args.records.now c.args.n c.requires.0 c.args.out.now _ c.args.at c.put_before-begin.result c.listed-bytes.result (sym c.there.ensures ∙ c.if-not-there.false) c.requires.1 c.listed-bytes.ensures c.put_before-begin.ensures).0)
-
-pub slice_bounds-entries-start : goal.slice_bounds-entries-start
-slice_bounds-entries-start c =
-    omega (arith, (entries-room c.args.table c.args.timescale c.args.records.now c.args.n c.requires.0 c.args.out.now _ c.args.at c.put_before-begin.result c.listed-bytes.result (sym c.there.ensures ∙ c.if-not-there.false) c.requires.1 c.listed-bytes.ensures c.put_before-begin.ensures).0)
-
-pub overflow_add-result : goal.overflow_add-result
-overflow_add-result c =
-    omega (arith, (entries-room c.args.table c.args.timescale c.args.records.now c.args.n c.requires.0 c.args.out.now _ c.args.at c.put_before-begin.result c.listed-bytes.result (sym c.there.ensures ∙ c.if-not-there.false) c.requires.1 c.listed-bytes.ensures c.put_before-begin.ensures).1)
 
 pub returns : goal.returns
 returns c =

@@ -3,10 +3,6 @@ use native.Mathlib.Omega.{arith}
 use Rattle.sampletable.proofs.Puts.{size_none, size-some, few-numbers, behind-few}
 use Rattle.sampletable.proofs.size.Goals as goal
 
-pub returns-then-not-there : goal.returns-then-not-there
-returns-then-not-there c =
-    size_none c.args.table c.args.timescale c.args.records.now c.args.n (sym c.there.ensures ∙ c.if-not-there.true)
-
 pub overflow_add-result : goal.overflow_add-result
 overflow_add-result c =
     omega (arith, c.behind-more.ensures, behind-few c.args.table)

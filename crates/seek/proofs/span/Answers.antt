@@ -8,10 +8,6 @@ pub returns-then-to-from : goal.returns-then-to-from
 returns-then-to-from c =
     span-nothing _ _ _ _ c.if-to-from.true
 
-pub overflow_mul-result : goal.overflow_mul-result
-overflow_mul-result c =
-    record { fits = omega (arith, product (c.args.to - c.args.from) c.args.t.common (omega arith)) }
-
 pub returns : goal.returns
 returns c =
     span-common _ _ _ _ c.if-t-eq0.false _ refl

@@ -3,10 +3,6 @@ use Prim.Native.Nat.{◌-◌}
 use Rattle.strings.proofs.Search.{here, not-here, nowhere}
 use Rattle.strings.proofs.text_end.Goals as goal
 
-pub loop-i-init : goal.loop-i-init
-loop-i-init c =
-    refl
-
 pub returns-then-b-i-eq0 : goal.returns-then-b-i-eq0
 returns-then-b-i-eq0 c =
     here _ _ c.loop-i-test.true c.if-b-i-eq0.true ∙ c.loop-i.invariant

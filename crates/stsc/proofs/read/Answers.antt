@@ -6,38 +6,24 @@ use Rattle.layout.specs.Rule.{rule_of}
 use Rattle.layout.specs.Canonical.{most, limit}
 use Rattle.layout.proofs.Rests.{end-in}
 use Rattle.rounds.proofs.Boxes.{fits}
-use Rattle.rounds.proofs.JudgedBoxes.{judged-no, judged-is, judged-wrong}
 use Rattle.stsc.specs.Stsc.{kind, fields, from, judge}
-use Rattle.stsc.specs.declared.Found.TheVariants.{Is, Refused}
 use Rattle.stsc.proofs.read.Goals as goal
-
-pub returns-then-got-ne0 : goal.returns-then-got-ne0
-returns-then-got-ne0 c =
-    judged-no Is Refused from judge c.args.part.now _ _ c.by-got.ensures c.if-got-ne0.true
 
 pub overflow_cast-stsc : goal.overflow_cast-stsc
 unfolding limit most rule_of when
 overflow_cast-stsc c =
-    omega (arith, fits kind fields c.args.part.now 0 0 _ c.by-got.ensures refl)
+    omega (arith, fits kind fields c.args.part.now 0 0 _ (sym c.in_ok-got.ensures) refl)
 
 pub overflow_cast-stsc-2 : goal.overflow_cast-stsc-2
 unfolding limit most rule_of when
 overflow_cast-stsc-2 c =
-    omega (arith, fits kind fields c.args.part.now 1 16777215 _ c.by-got.ensures refl)
+    omega (arith, fits kind fields c.args.part.now 1 16777215 _ (sym c.in_ok-got.ensures) refl)
 
 pub overflow_cast-stsc-3 : goal.overflow_cast-stsc-3
 unfolding limit most rule_of when
 overflow_cast-stsc-3 c =
-    omega (arith, fits kind fields c.args.part.now 2 4294967295 _ c.by-got.ensures refl)
+    omega (arith, fits kind fields c.args.part.now 2 4294967295 _ (sym c.in_ok-got.ensures) refl)
 
 pub slice_bounds-judge-end : goal.slice_bounds-judge-end
 slice_bounds-judge-end c =
-    sym (length-take-le _ c.args.part.now (end-in kind fields c.args.part.now _ c.by-got.ensures))
-
-pub returns-in-Fine : goal.returns-in-Fine
-returns-in-Fine c =
-    judged-is Is Refused from judge c.args.part.now _ _ c.by-got.ensures c.if-got-ne0.false _ c.judge.ensures c.in-Fine.is
-
-pub returns-in-Wrong : goal.returns-in-Wrong
-returns-in-Wrong c =
-    judged-wrong Is Refused from judge c.args.part.now _ _ c.by-got.ensures c.if-got-ne0.false _ c.judge.ensures _ c.in-Wrong.is
+    sym (length-take-le _ c.args.part.now (end-in kind fields c.args.part.now _ (sym c.in_ok-got.ensures)))

@@ -6,43 +6,29 @@ use Rattle.layout.specs.Rule.{rule_of}
 use Rattle.layout.specs.Canonical.{most, limit}
 use Rattle.layout.proofs.Rests.{end-in}
 use Rattle.rounds.proofs.Boxes.{fits}
-use Rattle.rounds.proofs.TableBoxes.{table-no, table_is, table-cut}
 use Rattle.stts.specs.Stts.{kind, fields, from, cells}
-use Rattle.stts.specs.declared.Found.TheVariants.{Is, Refused}
 use Rattle.stts.proofs.read.Goals as goal
-
-pub returns-then-got-ne0 : goal.returns-then-got-ne0
-returns-then-got-ne0 c =
-    table-no Is Refused from cells 4 c.args.part.now _ _ c.by-got.ensures c.if-got-ne0.true
 
 pub overflow_cast-stts : goal.overflow_cast-stts
 unfolding limit most rule_of when
 overflow_cast-stts c =
-    omega (arith, fits kind fields c.args.part.now 0 0 _ c.by-got.ensures refl)
+    omega (arith, fits kind fields c.args.part.now 0 0 _ (sym c.in_ok-got.ensures) refl)
 
 pub overflow_cast-stts-2 : goal.overflow_cast-stts-2
 unfolding limit most rule_of when
 overflow_cast-stts-2 c =
-    omega (arith, fits kind fields c.args.part.now 1 16777215 _ c.by-got.ensures refl)
+    omega (arith, fits kind fields c.args.part.now 1 16777215 _ (sym c.in_ok-got.ensures) refl)
 
 pub overflow_cast-stts-3 : goal.overflow_cast-stts-3
 unfolding limit most rule_of when
 overflow_cast-stts-3 c =
-    omega (arith, fits kind fields c.args.part.now 2 4294967295 _ c.by-got.ensures refl)
+    omega (arith, fits kind fields c.args.part.now 2 4294967295 _ (sym c.in_ok-got.ensures) refl)
 
 pub overflow_mul-cells : goal.overflow_mul-cells
 unfolding limit most rule_of when
 overflow_mul-cells c =
-    omega (arith, fits kind fields c.args.part.now 2 4294967295 _ c.by-got.ensures refl)
+    omega (arith, fits kind fields c.args.part.now 2 4294967295 _ (sym c.in_ok-got.ensures) refl)
 
 pub slice_bounds-first_cut-end : goal.slice_bounds-first_cut-end
 slice_bounds-first_cut-end c =
-    sym (length-take-le _ c.args.part.now (end-in kind fields c.args.part.now _ c.by-got.ensures))
-
-pub returns-in-Whole : goal.returns-in-Whole
-returns-in-Whole c =
-    table_is Is Refused from cells 4 c.args.part.now _ _ c.by-got.ensures c.if-got-ne0.false _ c.first_cut-cut.ensures c.in-Whole.is
-
-pub returns-in-At : goal.returns-in-At
-returns-in-At c =
-    table-cut Is Refused from cells 4 c.args.part.now _ _ c.by-got.ensures c.if-got-ne0.false _ _ c.first_cut-cut.ensures c.in-At.is
+    sym (length-take-le _ c.args.part.now (end-in kind fields c.args.part.now _ (sym c.in_ok-got.ensures)))

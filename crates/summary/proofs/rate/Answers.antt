@@ -11,12 +11,6 @@ unfolding of_bits round
 returns-then-millis-eq0 c =
     no-time c.args.count c.args.millis c.if-millis-eq0.true
 
-pub int_to_float-result : goal.int_to_float-result
-unfolding in_float
-int_to_float-result c =
-    let d : c.args.count * 1000 / c.args.millis ≤ c.args.count * 1000 = div-le_self (c.args.count * 1000) c.args.millis in
-    le→leb (c.args.count * 1000 / c.args.millis) (2 ^ 53) (omega (arith, d, c.ranges.count))
-
 pub returns : goal.returns
 unfolding of_int
 returns c =

@@ -8,34 +8,6 @@ use Rattle.lanes.specs.Site as tabled
 use Rattle.lanes.proofs.Sites.{at-end, at-over, at_one}
 use Rattle.sweeps.proofs.by_tables.Goals as goal
 
-pub loop-sample-init : goal.loop-sample-init
-loop-sample-init c =
-    starts _ _ _ _ c.requires.0
-
-pub returns-in-End : goal.returns-in-End
-returns-in-End c =
-    ends-none _ _ _ _ _ c.args.number (tabled.left c.args.file.now c.args.t c.loop-sample.rest) c.loop-sample.invariant _ c.dead.ensures (fitting-none (tabled.left c.args.file.now c.args.t c.loop-sample.rest) (at-end c.args.file.now c.args.t c.loop-sample.rest _ c.next.ensures c.in-End.is))
-
-pub returns-in-Over : goal.returns-in-Over
-returns-in-Over c =
-    ends-none _ _ _ _ _ c.args.number (tabled.left c.args.file.now c.args.t c.loop-sample.rest) c.loop-sample.invariant _ c.dead-in-Over.ensures (fitting-stuck (tabled.left c.args.file.now c.args.t c.loop-sample.rest) (at-over c.args.file.now c.args.t c.loop-sample.rest _ c.next.ensures c.in-Over.is))
-
-pub goes_on-requires : goal.goes_on-requires
-goes_on-requires c =
-    c.loop-sample.invariant.stays
-
-pub overflow_add-at : goal.overflow_add-at
-overflow_add-at c =
-    omega (arith, (c.goes_on.ensures c.if-goes_on.true).2)
-
-pub loop-sample-smaller : goal.loop-sample-smaller
-loop-sample-smaller c =
-    less_one _ _ _ _ _ c.args.number (tabled.left c.args.file.now c.args.t c.loop-sample.rest) c.loop-sample.invariant _ _ (at_one c.args.file.now c.args.t c.loop-sample.rest _ c.next.ensures _ _ _ _ c.in-One.is)
-
 pub loop-sample-preserved : goal.loop-sample-preserved
 loop-sample-preserved c =
     let g = c.goes_on.ensures c.if-goes_on.true in goes_one _ _ _ _ _ c.args.number (tabled.left c.args.file.now c.args.t c.loop-sample.rest) c.loop-sample.invariant _ _ (at_one c.args.file.now c.args.t c.loop-sample.rest _ c.next.ensures _ _ _ _ c.in-One.is) g.0 g.1 c.requires.1 g.2
-
-pub returns-else-goes_on : goal.returns-else-goes_on
-returns-else-goes_on c =
-    ends-one _ _ _ _ _ c.args.number (tabled.left c.args.file.now c.args.t c.loop-sample.rest) c.loop-sample.invariant _ _ (at_one c.args.file.now c.args.t c.loop-sample.rest _ c.next.ensures _ _ _ _ c.in-One.is) _ c.met.ensures

@@ -8,10 +8,6 @@ pub returns-then-filled-count : goal.returns-then-filled-count
 returns-then-filled-count c =
     λ all m xs ts len st. let four : length c.args.heads ≡ 4 = omega arith in fills c.args.heads c.args.filled c.args.count c.args.p c.args.end four c.requires all m xs ts len st c.if-filled-count.true
 
-pub returns-then-p-end : goal.returns-then-p-end
-returns-then-p-end c =
-    λ all m xs ts len st. let four : length c.args.heads ≡ 4 = omega arith in skips c.args.heads c.args.filled c.args.count c.args.p c.args.end four c.requires all m xs ts len st c.if-filled-count.false c.if-p-end.true
-
 pub returns-then-below-lt4 : goal.returns-then-below-lt4
 returns-then-below-lt4 c =
     λ all m xs ts len st. let four : length c.args.heads ≡ 4 = omega arith in strays c.args.heads c.args.filled c.args.count c.args.p c.args.end four c.requires all m xs ts len st c.if-filled-count.false c.if-p-end.false _ c.look-seen.ensures c.if-below-lt4.true _

@@ -15,18 +15,6 @@ pub loop-finding-init : goal.loop-finding-init
 loop-finding-init c =
     begins c.args.fragmented c.args.file.now (rows_of c.args.table.now c.args.rows) c.dead-none.result c.start-tabled.result c.start-ran.result (ap (λ (z : Head). z.live) c.dead-none.ensures) c.start-tabled.ensures c.start-ran.ensures (payloads_from c.args.file.now (boxes c.args.starts.now c.args.sizes.now c.args.kinds.now c.args.parents.now c.args.placed.now) c.args.n 0) c.args.count _ c.args.numbers c.args.tracks (omega (arith, c.well_formed.1.1.1.1.1.1.1.0)) (omega (arith, c.well_formed.1.1.1.1.1.1.1.1.0)) c.at_most_four-most.ensures
 
-pub decide-requires : goal.decide-requires
-decide-requires c =
-    c.loop-finding.invariant.sweeping.inside
-
-pub returns-in-Stop : goal.returns-in-Stop
-returns-in-Stop c =
-    stops _ _ _ _ _ _ _ _ _ _ _ _ _ _ _ c.loop-finding.invariant _ c.decide.ensures _ c.in-Stop.is
-
-pub returns-in-Stray : goal.returns-in-Stray
-returns-in-Stray c =
-    c.stray.ensures ∙ ap asked (strays _ _ _ _ _ _ _ _ _ _ _ _ _ _ _ c.loop-finding.invariant _ c.decide.ensures _ c.in-Stray.is)
-
 pub returns-in-End : goal.returns-in-End
 returns-in-End c =
     c.left_over.ensures ∙ ap asked (ends _ _ _ _ _ _ _ _ _ _ _ _ _ _ _ c.loop-finding.invariant _ c.decide.ensures c.in-Skip.is (no_more c.args.file.now (boxes c.args.starts.now c.args.sizes.now c.args.kinds.now c.args.parents.now c.args.placed.now) c.args.n c.loop-finding.row _ c.next.ensures c.in-End.is))

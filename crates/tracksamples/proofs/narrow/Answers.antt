@@ -4,12 +4,12 @@ use Rattle.tracksamples.proofs.narrow.Goals as goal
 
 pub returns-then-n-gt4294967295 : goal.returns-then-n-gt4294967295
 returns-then-n-gt4294967295 c =
-    narrow_high c.args.tally _ c.in-Is.is c.if-n-gt4294967295.true _ c.over-then-n-gt4294967295.ensures
+    narrow_high c.args.tally _ c.in-Some.is c.if-n-gt4294967295.true
 
-pub returns-in-Over : goal.returns-in-Over
-returns-in-Over c =
-    narrow-over c.args.tally c.in-Over.is _ c.over.ensures
+pub returns-in-None : goal.returns-in-None
+returns-in-None c =
+    narrow-over c.args.tally c.in-None.is
 
 pub returns-else-n-gt4294967295 : goal.returns-else-n-gt4294967295
 returns-else-n-gt4294967295 c =
-    narrow-is c.args.tally _ c.in-Is.is (omega arith)
+    narrow-is c.args.tally _ c.in-Some.is (omega arith)

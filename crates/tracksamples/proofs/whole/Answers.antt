@@ -1,10 +1,10 @@
 use Rattle.tracksamples.proofs.Cases.{whole-over, whole_is}
 use Rattle.tracksamples.proofs.whole.Goals as goal
 
-pub returns-in-Over : goal.returns-in-Over
-returns-in-Over c =
-    whole-over c.args.tally c.in-Over.is _ c.over.ensures
+pub returns-in-None : goal.returns-in-None
+returns-in-None c =
+    whole-over c.args.tally c.in-None.is
 
-pub returns-in-Is : goal.returns-in-Is
-returns-in-Is c =
-    whole_is c.args.tally _ c.in-Is.is
+pub returns-in-Some : goal.returns-in-Some
+returns-in-Some c =
+    whole_is c.args.tally _ c.in-Some.is

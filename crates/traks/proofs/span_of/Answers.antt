@@ -3,10 +3,6 @@ use Rattle.traks.proofs.Tells.{span-lies, no_span, a-span}
 use native.Mathlib.Omega.{arith}
 use Rattle.traks.proofs.span_of.Goals as goal
 
-pub returns-then-row-eq0 : goal.returns-then-row-eq0
-returns-then-row-eq0 c =
-    no_span (boxes c.args.starts.now c.args.sizes.now c.args.kinds.now c.args.parents.now c.args.placed.now) c.args.n c.args.kind c.args.p _ c.child-row.ensures c.if-row-eq0.true
-
 pub offset_bounds-starts-row : goal.offset_bounds-starts-row
 offset_bounds-starts-row c =
     omega (arith, span-lies (boxes c.args.starts.now c.args.sizes.now c.args.kinds.now c.args.parents.now c.args.placed.now) c.args.n c.args.kind c.args.p _ c.child-row.ensures c.if-row-eq0.false)
@@ -22,7 +18,3 @@ offset_bounds-sizes-row c =
 pub bounds-sizes-row : goal.bounds-sizes-row
 bounds-sizes-row c =
     omega (arith, span-lies (boxes c.args.starts.now c.args.sizes.now c.args.kinds.now c.args.parents.now c.args.placed.now) c.args.n c.args.kind c.args.p _ c.child-row.ensures c.if-row-eq0.false)
-
-pub returns : goal.returns
-returns c =
-    a-span (boxes c.args.starts.now c.args.sizes.now c.args.kinds.now c.args.parents.now c.args.placed.now) c.args.n c.args.kind c.args.p _ c.child-row.ensures c.if-row-eq0.false

@@ -7,7 +7,3 @@ pub returns-then-s-gt-FILE_LIMIT : goal.returns-then-s-gt-FILE_LIMIT
 unfolding puts
 returns-then-s-gt-FILE_LIMIT c =
     ap (recorded _ 0) (is_lt _ _ _ _ _ c.if-s-gt-FILE_LIMIT.true refl)
-
-pub returns : goal.returns
-returns c =
-    c.walk.ensures ∙ ap (recorded _ 0) (not-lt _ _ _ _ _ c.if-s-gt-FILE_LIMIT.false refl)

@@ -6,7 +6,7 @@ use Rattle.trun.proofs.value_at.Goals as goal
 pub returns-then-is_set : goal.returns-then-is_set
 unfolding optional
 returns-then-is_set c =
-    by-true _ _ _ _ (sym c.is_set.ensures ∙ c.if-is_set.true) c.u32_at.ensures
+    by-true _ _ _ _ (sym c.is_set.ensures ∙ c.if-is_set.true) c.read.ensures
 
 pub returns : goal.returns
 unfolding optional

@@ -7,14 +7,6 @@ use lib.Seq.{sets}
 use Rattle.tree.proofs.Columns.{copied, all-copied}
 use Rattle.whole_tree.proofs.copy.Goals as goal
 
-pub loop-i-init : goal.loop-i-init
-loop-i-init c =
-    ap (λ k. sets c.args.to.now 0 (take k c.args.from.now)) (sub-zero c.args.n)
-
 pub loop-i-preserved : goal.loop-i-preserved
 loop-i-preserved c =
     copied c.loop-i.to c.args.from.now c.args.n c.loop-i.i c.loop-i-test.true (omega arith) ∙ c.loop-i.invariant
-
-pub returns : goal.returns
-returns c =
-    all-copied c.loop-i.to c.args.from.now c.args.n c.loop-i.i c.loop-i-test.false ∙ c.loop-i.invariant

@@ -7,18 +7,6 @@ pub returns-then-out-lt4 : goal.returns-then-out-lt4
 returns-then-out-lt4 c =
     no_room _ _ _ _ _ _ c.if-out-lt4.true
 
-pub bounds-out-1 : goal.bounds-out-1
-bounds-out-1 c =
-    simp length-set (omega arith)
-
-pub bounds-out-2 : goal.bounds-out-2
-bounds-out-2 c =
-    simp length-set (omega arith)
-
-pub bounds-out-3 : goal.bounds-out-3
-bounds-out-3 c =
-    simp length-set (omega arith)
-
 pub returns : goal.returns
 returns c =
     stored _ _ _ _ _ _ c.if-out-lt4.false

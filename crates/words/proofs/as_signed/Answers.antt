@@ -5,10 +5,6 @@ pub returns-then-x-lt2147483648 : goal.returns-then-x-lt2147483648
 returns-then-x-lt2147483648 c =
     signed_low _ c.if-x-lt2147483648.true
 
-pub overflow_sub-result : goal.overflow_sub-result
-overflow_sub-result c =
-    signed-fits _ c.if-x-lt2147483648.false c.ranges.x.fits
-
 pub returns : goal.returns
 returns c =
     signed_high _ c.if-x-lt2147483648.false c.ranges.x.fits

@@ -5,10 +5,6 @@ use Rattle.audio.specs.Frequencies.{frequencies}
 use Rattle.audio.proofs.Frequency.{found, further, nowhere}
 use Rattle.audio.proofs.frequencies.index_of.Goals as goal
 
-pub loop-i-init : goal.loop-i-init
-loop-i-init c =
-    (omega arith, refl)
-
 pub returns-then-i-frequency : goal.returns-then-i-frequency
 returns-then-i-frequency c =
     found c.args.frequency frequencies c.loop-i.i _ (omega arith) refl c.if-i-frequency.true ∙ c.loop-i.invariant.1

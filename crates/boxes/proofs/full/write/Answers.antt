@@ -6,8 +6,4 @@ use Rattle.boxes.proofs.full.write.Goals as goal
 
 pub returns-then-flags-lt16777216 : goal.returns-then-flags-lt16777216
 returns-then-flags-lt16777216 c =
-    is_lt _ _ _ _ _ c.if-flags-lt16777216.true (c.u32_at.ensures ∙ as_one 1 3 c.args.version c.args.flags c.args.at c.args.out.now (omega arith) (omega arith) (omega arith))
-
-pub returns : goal.returns
-returns c =
-    not-lt _ _ _ _ _ c.if-flags-lt16777216.false refl
+    is_lt _ _ _ _ _ c.if-flags-lt16777216.true (c.write.ensures ∙ as_one 1 3 c.args.version c.args.flags c.args.at c.args.out.now (omega arith) (omega arith) (omega arith))

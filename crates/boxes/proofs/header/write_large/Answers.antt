@@ -10,14 +10,6 @@ use Rattle.numbers.proofs.Laws.{bytes-join}
 use Rattle.put.proofs.Placed.{no-sum, no_room}
 use Rattle.boxes.proofs.header.write_large.Goals as goal
 
-pub returns-then-at : goal.returns-then-at
-returns-then-at c =
-    no-sum (large_bytes c.args.kind c.args.size) 16 c.args.at c.args.out.now (omega arith) (omega arith)
-
-pub returns-then-out-end : goal.returns-then-out-end
-returns-then-out-end c =
-    no_room (large_bytes c.args.kind c.args.size) 16 c.args.at c.args.out.now (omega arith) (omega arith)
-
 pub returns : goal.returns
 returns c =
-    two (0x1_0000_0000 + c.args.kind) c.args.size c.args.at c.args.out.now c.u64_at.new.buf c.u64_at-2.new.buf _ _ (omega arith) (omega arith) (omega arith) c.u64_at.ensures c.u64_at-2.ensures ∙ ap (λ s. placed (s ++ bytes 8 c.args.size) 16 c.args.at c.args.out.now) (bytes-join 4 4 1 c.args.kind (omega arith))
+    two (0x1_0000_0000 + c.args.kind) c.args.size c.args.at c.args.out.now c.write.new.buf c.write-2.new.buf _ _ (omega arith) (omega arith) (omega arith) c.write.ensures c.write-2.ensures ∙ ap (λ s. placed (s ++ bytes 8 c.args.size) 16 c.args.at c.args.out.now) (bytes-join 4 4 1 c.args.kind (omega arith))

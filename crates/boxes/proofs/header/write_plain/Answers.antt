@@ -5,4 +5,4 @@ use Rattle.boxes.proofs.header.write_plain.Goals as goal
 
 pub returns : goal.returns
 returns c =
-    c.u64_at.ensures ∙ as_one 4 4 c.args.size c.args.kind c.args.at c.args.out.now (omega arith) (omega arith) (omega arith)
+    c.write.ensures ∙ as_one 4 4 c.args.size c.args.kind c.args.at c.args.out.now (omega arith) (omega arith) (omega arith)

@@ -1,9 +1,8 @@
 use mathlib.Core.Path.{ap}
 use native.Mathlib.Omega.{arith}
 use Prim.Native.Nat.{ℕ, ◌*◌}
-use Rattle.columns.proofs.Written.{placed-done}
+use Rattle.columns.proofs.Written.{placed-small, placed-done}
 use Rattle.builder.specs.Built.{runs_of}
-use Rattle.builder.proofs.Answers.{refused-small}
 use Rattle.builder.proofs.Fills.{runs-few}
 use Rattle.builder.proofs.pairs.built.Goals as goal
 
@@ -13,7 +12,7 @@ overflow_mul-needed c =
 
 pub returns-then-out-needed : goal.returns-then-out-needed
 returns-then-out-needed c =
-    refused-small c.refuse.result (runs_of c.args.records.now c.args.n c.args.column) c.args.out.now (c.walk-numbers.result * 4) c.refuse.ensures (ap (λ (m : ℕ). m * 4) c.walk-numbers.ensures) c.if-out-needed.true
+    placed-small (runs_of c.args.records.now c.args.n c.args.column) c.args.out.now (c.walk-numbers.result * 4) (ap (λ (m : ℕ). m * 4) c.walk-numbers.ensures) c.if-out-needed.true
 
 pub returns : goal.returns
 returns c =

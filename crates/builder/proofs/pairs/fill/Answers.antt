@@ -4,10 +4,6 @@ use Prim.Native.Nat.{◌-◌}
 use Rattle.builder.proofs.Fills.{runs-few, merge-begins, merge_on, merge-ends}
 use Rattle.builder.proofs.pairs.fill.Goals as goal
 
-pub loop-i-init : goal.loop-i-init
-loop-i-init c =
-    merge-begins c.args.records.now c.args.n c.args.column c.args.out.now _ c.fresh-run.ensures
-
 pub put_closed-k-requires : goal.put_closed-k-requires
 put_closed-k-requires c =
     omega (arith, runs-few c.args.records.now c.args.n c.args.column, c.loop-i.invariant.many)
@@ -19,10 +15,6 @@ loop-i-preserved c =
 pub put_closed-requires : goal.put_closed-requires
 put_closed-requires c =
     omega (arith, runs-few c.args.records.now c.args.n c.args.column, c.loop-i.invariant.many)
-
-pub shape_of-out : goal.shape_of-out
-shape_of-out c =
-    (merge-ends c.args.records.now c.args.n c.args.column c.args.out.now c.loop-i.out _ c.loop-i.i c.loop-i.k _ c.loop-i.run c.loop-i.invariant c.finish-last.result c.put_closed.ensures c.loop-i-test.false c.finish-last.ensures).same
 
 pub returns : goal.returns
 returns c =

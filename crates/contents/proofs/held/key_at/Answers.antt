@@ -7,7 +7,3 @@ use Rattle.contents.proofs.held.key_at.Goals as goal
 pub returns-then-kind-gt4294967295 : goal.returns-then-kind-gt4294967295
 returns-then-kind-gt4294967295 c =
     no_key (get_or c.args.kinds.now c.args.j 0) (take (get_or c.args.sizes.now c.args.j 0) (drop (get_or c.args.starts.now c.args.j 0) c.args.s.now)) c.if-kind-gt4294967295.true
-
-pub returns : goal.returns
-returns c =
-    c.find.ensures ∙ ap (key_of (get_or c.args.kinds.now c.args.j 0)) c.part.ensures

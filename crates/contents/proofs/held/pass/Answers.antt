@@ -9,10 +9,6 @@ use Rattle.kin.proofs.Befores.{sum-none, sum-next}
 use Rattle.contents.proofs.Helds.{sum-grows}
 use Rattle.contents.proofs.held.pass.Goals as goal
 
-pub returns-then-count-gt-SAMPLES : goal.returns-then-count-gt-SAMPLES
-returns-then-count-gt-SAMPLES c =
-    sym (lt-ltb sample_limit (sum (run_of c.args.s.now (boxes c.args.starts.now c.args.sizes.now c.args.kinds.now c.args.parents.now c.args.placed.now) c.args.n c.args.track) c.args.i + c.args.count) (omega arith))
-
 pub loop-j-init : goal.loop-j-init
 loop-j-init c =
     (omega arith, omega arith, omega (arith, sum-none (run_of c.args.s.now (boxes c.args.starts.now c.args.sizes.now c.args.kinds.now c.args.parents.now c.args.placed.now) c.args.n c.args.track)))
@@ -24,7 +20,3 @@ returns-then-all-more c =
 pub loop-j-preserved : goal.loop-j-preserved
 loop-j-preserved c =
     (omega arith, omega arith, omega (arith, sum-next (run_of c.args.s.now (boxes c.args.starts.now c.args.sizes.now c.args.kinds.now c.args.parents.now c.args.placed.now) c.args.n c.args.track) c.loop-j.j, c.run_of-more.ensures, c.loop-j.invariant.2))
-
-pub returns : goal.returns
-returns c =
-    sym (le-ltb sample_limit (sum (run_of c.args.s.now (boxes c.args.starts.now c.args.sizes.now c.args.kinds.now c.args.parents.now c.args.placed.now) c.args.n c.args.track) c.args.i + c.args.count) (omega (arith, c.loop-j.invariant.1, c.loop-j.invariant.2, ap (sum (run_of c.args.s.now (boxes c.args.starts.now c.args.sizes.now c.args.kinds.now c.args.parents.now c.args.placed.now) c.args.n c.args.track)) (let z : c.loop-j.j ≡ c.args.i = omega arith in z))))

@@ -6,10 +6,6 @@ use Rattle.contents.specs.Held.{number_in, track_from}
 use Rattle.contents.proofs.Helds.{track-left, track-here, track-on, track-none}
 use Rattle.contents.proofs.held.track_of.Goals as goal
 
-pub loop-k-init : goal.loop-k-init
-loop-k-init c =
-    refl
-
 pub returns-then-parents-k : goal.returns-then-parents-k
 returns-then-parents-k c =
     track-left c.args.s.now (boxes c.args.starts.now c.args.sizes.now c.args.kinds.now c.args.parents.now c.args.placed.now) (get_or c.args.parents.now c.args.j 0) c.loop-k.k c.rows-end.result c.loop-k-test.true c.if-parents-k.true ∙ c.loop-k.invariant ∙ ap (λ e. track_from (e - (get_or c.args.parents.now c.args.j 0)) c.args.s.now (boxes c.args.starts.now c.args.sizes.now c.args.kinds.now c.args.parents.now c.args.placed.now) (get_or c.args.parents.now c.args.j 0) (get_or c.args.parents.now c.args.j 0)) c.rows-end.ensures

@@ -19,7 +19,3 @@ returns-then-has_number c =
 pub loop-j-preserved : goal.loop-j-preserved
 loop-j-preserved c =
     (omega arith, some_next (λ j. ◌&&◌ (stands (boxes c.args.starts.now c.args.sizes.now c.args.kinds.now c.args.parents.now c.args.placed.now) c.args.kind j) (is (key_at c.args.s.now (boxes c.args.starts.now c.args.sizes.now c.args.kinds.now c.args.parents.now c.args.placed.now) j) c.args.x)) c.loop-j.j c.loop-j.invariant.1 (sym c.has_number.ensures ∙ c.if-has_number.false))
-
-pub returns : goal.returns
-returns c =
-    sym (ap (some (λ j. ◌&&◌ (stands (boxes c.args.starts.now c.args.sizes.now c.args.kinds.now c.args.parents.now c.args.placed.now) c.args.kind j) (is (key_at c.args.s.now (boxes c.args.starts.now c.args.sizes.now c.args.kinds.now c.args.parents.now c.args.placed.now) j) c.args.x))) (let z : c.args.i ≡ c.loop-j.j = omega arith in z) ∙ c.loop-j.invariant.1)

@@ -17,14 +17,6 @@ pub returns-then-w-eq0 : goal.returns-then-w-eq0
 returns-then-w-eq0 c =
     no-width c.args.n c.args.w c.args.b.now c.args.at c.if-b-at.false c.if-w-eq0.true
 
-pub overflow_mul-result : goal.overflow_mul-result
-overflow_mul-result c =
-    omega (arith, div-mul-le_self (length c.args.b.now - c.args.at) c.args.w)
-
-pub overflow_add-result : goal.overflow_add-result
-overflow_add-result c =
-    omega (arith, div-mul-le_self (length c.args.b.now - c.args.at) c.args.w)
-
 pub returns-then-q-n : goal.returns-then-q-n
 returns-then-q-n c =
     is_cut c.args.w c.args.b.now (let z = c.if-w-eq0.false in omega arith) c.args.n c.args.at c.if-b-at.false c.if-q-n.true

@@ -8,10 +8,6 @@ unfolding in_moof
 returns-then-child-eq0 c =
     lacking _ _ _ _ _ _ c.child.ensures c.if-child-eq0.true
 
-pub in_trafs-requires : goal.in_trafs-requires
-in_trafs-requires c =
-    c.requires
-
 pub returns : goal.returns
 unfolding in_moof
 returns c =

@@ -14,7 +14,3 @@ returns-then-extends c =
 pub loop-j-preserved : goal.loop-j-preserved
 loop-j-preserved c =
     (omega arith, trex-next _ _ _ _ _ c.loop-j.invariant.1 c.extends.ensures c.if-extends.false)
-
-pub returns : goal.returns
-returns c =
-    trex-end _ _ _ _ _ _ c.rows-end.ensures c.loop-j.invariant.0 c.loop-j-test.false c.loop-j.invariant.1

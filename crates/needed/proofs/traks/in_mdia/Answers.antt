@@ -20,10 +20,6 @@ unfolding in_mdia
 returns-then-minf-eq0 c =
     present _ _ _ _ _ _ c.child.ensures c.if-child-eq0.false (present _ _ _ _ _ _ c.child-2.ensures c.if-child-eq0-2.false (lacking _ _ _ _ _ _ c.child-minf.ensures c.if-minf-eq0.true))
 
-pub in_minf-requires : goal.in_minf-requires
-in_minf-requires c =
-    c.requires
-
 pub returns : goal.returns
 unfolding in_mdia
 returns c =

@@ -15,10 +15,6 @@ unfolding in_minf
 returns-then-stbl-eq0 c =
     present _ _ _ _ _ _ c.child.ensures c.if-child-eq0.false (lacking _ _ _ _ _ _ c.child-stbl.ensures c.if-stbl-eq0.true)
 
-pub in_stbl-requires : goal.in_stbl-requires
-in_stbl-requires c =
-    c.requires
-
 pub returns : goal.returns
 unfolding in_minf
 returns c =

@@ -15,10 +15,6 @@ unfolding in_trak
 returns-then-mdia-eq0 c =
     present _ _ _ _ _ _ c.child.ensures c.if-child-eq0.false (lacking _ _ _ _ _ _ c.child-mdia.ensures c.if-mdia-eq0.true)
 
-pub in_mdia-requires : goal.in_mdia-requires
-in_mdia-requires c =
-    c.requires
-
 pub returns : goal.returns
 unfolding in_trak
 returns c =

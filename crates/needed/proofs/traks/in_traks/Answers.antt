@@ -16,7 +16,3 @@ returns-then-kind-ne0 c =
 pub loop-j-preserved : goal.loop-j-preserved
 loop-j-preserved c =
     (omega arith, each_next _ _ _ _ _ _ c.loop-j.invariant.1 c.trak_at-kind.ensures c.if-kind-ne0.false)
-
-pub returns : goal.returns
-returns c =
-    each-end _ _ _ _ _ _ c.loop-j.invariant.0 c.loop-j-test.false c.loop-j.invariant.1

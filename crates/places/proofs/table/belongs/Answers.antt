@@ -5,10 +5,6 @@ use Rattle.places.specs.Places.{places}
 use Rattle.places.proofs.Places.{there, not_there, none_left}
 use Rattle.places.proofs.table.belongs.Goals as goal
 
-pub loop-i-init : goal.loop-i-init
-loop-i-init c =
-    (omega arith, refl)
-
 pub returns-then-place-home : goal.returns-then-place-home
 unfolding places
 returns-then-place-home c =

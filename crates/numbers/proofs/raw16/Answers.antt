@@ -1,7 +1,0 @@
-use native.Mathlib.Omega.{arith}
-use Rattle.numbers.proofs.Laws.{join}
-use Rattle.numbers.proofs.raw16.Goals as goal
-
-pub returns : goal.returns
-returns c =
-    omega (arith, join 1 1 c.args.s.now c.args.at)

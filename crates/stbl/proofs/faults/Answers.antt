@@ -1,5 +1,0 @@
-use Rattle.stbl.proofs.faults.Goals as goal
-
-pub returns : goal.returns
-returns c =
-    cc

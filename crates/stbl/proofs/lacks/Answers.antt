@@ -1,5 +1,0 @@
-use Rattle.stbl.proofs.lacks.Goals as goal
-
-pub returns : goal.returns
-returns c =
-    cc

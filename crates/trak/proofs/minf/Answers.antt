@@ -1,8 +1,0 @@
-use mathlib.Core.Path.{ap, ◌∙◌}
-use Rattle.trak.specs.Trak.{within}
-use Rattle.places.specs.Kinds as kinds
-use Rattle.trak.proofs.minf.Goals as goal
-
-pub returns : goal.returns
-returns c =
-    c.within.ensures ∙ ap (within kinds.mdia kinds.minf) c.mdia-media.ensures
