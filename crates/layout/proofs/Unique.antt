@@ -2,6 +2,7 @@
 -- Assumes nothing.
 use mathlib.Core.Path.{◌≡◌, sym, ◌∙◌}
 use Rattle.layout.proofs.rule.rule_of.Reads as rule-of
+use Rattle.layout.proofs.rule.Rule.refusal.Reads as refusal
 use Rattle.layout.proofs.read.by.Reads as read_by_lem
 use Rattle.layout.proofs.read.rest.Reads as read-rest
 use Rattle.layout.proofs.table.first_cut.Reads as first-cut
@@ -17,3 +18,6 @@ first-cut-fixed κs a r q s t p o = p ∙ sym o
 
 read-rest-fixed : (κs : _) (a : _) (r q : _) (s t : _) → read-rest.Post κs a r s → read-rest.Post κs a q t → r.now ≡ q.now
 read-rest-fixed κs a r q s t p o = p ∙ sym o
+
+refusal-fixed : (κs : _) (a : _) (r q : _) (s t : _) → refusal.Post κs a r s → refusal.Post κs a q t → r ≡ q
+refusal-fixed κs a r q s t p o = p ∙ sym o

@@ -17,8 +17,8 @@ pub struct Rule {
 }
 
 impl Rule {
-    // The refusal of a value that stands at `at`.
-    pub(crate) fn refusal(self, at: usize) -> Refusal
+    /// The refusal of a value outside of the field's range that stands at `at`: 7 of a version, else 8.
+    pub fn refusal(self, at: usize) -> Refusal
         ensures { result ≡ refusal_of self at }
     {
         if self.version {
