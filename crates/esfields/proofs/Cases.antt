@@ -12,7 +12,7 @@ use Rattle.numbers.specs.Number.{be}
 use Rattle.numbers.specs.Field.{field, when}
 use Rattle.numbers.specs.declared.Refusal.TheVariants as refusal
 use Rattle.numbers.specs.declared.Refusal.{Refusal}
-use Rattle.numbers.proofs.Chain.{whole, ends, has, lacks, by-true, by-false, field-way}
+use Rattle.numbers.proofs.Chain.{by-result, whole, ends, has, lacks, by-true, by-false, field-way}
 use Rattle.esfields.specs.EsFields.{is_set, wide, stream, fields_of}
 use Rattle.esfields.specs.declared.Stream.{Stream}
 
@@ -42,11 +42,11 @@ fits_not n w t e = ap (λ w. ltb n (256 ^ w)) (by-false w 0 _ t e refl)
 
 module _ (s : List ℕ) (at : ℕ) (r1 : Result ℕ Refusal) (e1 : r1 ≡ field Err 2 s at Ok) where
   pub cut-id : (q : Refusal) → r1 ≡ Err q → Err (refusal.Cut at) ≡ fields_of s at
-  cut-id q g = ends 2 s at _ _ _ (lacks 2 s at r1 e1 q g) refl
+  cut-id q g = ends 2 s at _ _ _ (lacks by-result 2 s at r1 e1 q g) refl
 
   module _ (i : ℕ) (g1 : r1 ≡ Ok i) (r2 : Result ℕ Refusal) (e2 : r2 ≡ field Err 1 s (at + 2) Ok) where
     pub cut-flags : (q : Refusal) → r2 ≡ Err q → Err (refusal.Cut (at + 2)) ≡ fields_of s at
-    cut-flags q g = has 2 s at r1 e1 _ _ _ i g1 (ends 1 s (at + 2) _ _ _ (lacks 1 s (at + 2) r2 e2 q g) refl)
+    cut-flags q g = has by-result 2 s at r1 e1 _ _ _ i g1 (ends 1 s (at + 2) _ _ _ (lacks by-result 1 s (at + 2) r2 e2 q g) refl)
 
     module _ (fl : ℕ) (g2 : r2 ≡ Ok fl) (a b c : Bool) (ea : a ≡ is_set fl 0x80) (eb : b ≡ is_set fl 0x40) (ec : c ≡ is_set fl 0x20)
         (r3 : Result ℕ Refusal) (e3 : r3 ≡ field Err (when a 2 0) s (at + 3) Ok) where
@@ -55,9 +55,9 @@ module _ (s : List ℕ) (at : ℕ) (r1 : Result ℕ Refusal) (e1 : r1 ≡ field 
 
       pub cut-depends : (q : Refusal) → r3 ≡ Err q → Err (refusal.Cut (at + 3)) ≡ fields_of s at
       cut-depends q g =
-          has 2 s at r1 e1 _ _ _ i g1
-          (has 1 s (at + 2) r2 e2 _ _ _ fl g2
-          (ends (wide fl 0x80 2) s (at + 3) _ _ _ (lacks (wide fl 0x80 2) s (at + 3) r3 third q g) refl))
+          has by-result 2 s at r1 e1 _ _ _ i g1
+          (has by-result 1 s (at + 2) r2 e2 _ _ _ fl g2
+          (ends (wide fl 0x80 2) s (at + 3) _ _ _ (lacks by-result (wide fl 0x80 2) s (at + 3) r3 third q g) refl))
 
       module _ (d : ℕ) (g3 : r3 ≡ Ok d) (x : ℕ) (ex : x ≡ when a 2 0) (r4 : Result ℕ Refusal) (e4 : r4 ≡ field Err (when b 1 0) s (at + 3 + x) Ok) where
         x-is : at + 3 + x ≡ at + 3 + wide fl 0x80 2
@@ -68,10 +68,10 @@ module _ (s : List ℕ) (at : ℕ) (r1 : Result ℕ Refusal) (e1 : r1 ≡ field 
 
         pub cut-length : (q : Refusal) → r4 ≡ Err q → Err (refusal.Cut (at + 3 + x)) ≡ fields_of s at
         cut-length q g =
-            has 2 s at r1 e1 _ _ _ i g1
-            (has 1 s (at + 2) r2 e2 _ _ _ fl g2
-            (has (wide fl 0x80 2) s (at + 3) r3 third _ _ _ d g3
-            (ends (wide fl 0x40 1) s (at + 3 + wide fl 0x80 2) _ _ _ (lacks (wide fl 0x40 1) s (at + 3 + wide fl 0x80 2) r4 fourth q g)
+            has by-result 2 s at r1 e1 _ _ _ i g1
+            (has by-result 1 s (at + 2) r2 e2 _ _ _ fl g2
+            (has by-result (wide fl 0x80 2) s (at + 3) r3 third _ _ _ d g3
+            (ends (wide fl 0x40 1) s (at + 3 + wide fl 0x80 2) _ _ _ (lacks by-result (wide fl 0x40 1) s (at + 3 + wide fl 0x80 2) r4 fourth q g)
             (ap (λ p. Err (refusal.Cut p)) x-is))))
 
         module _ (n : ℕ) (g4 : r4 ≡ Ok n) (y : ℕ) (ey : y ≡ when b 1 0) where
@@ -80,10 +80,10 @@ module _ (s : List ℕ) (at : ℕ) (r1 : Result ℕ Refusal) (e1 : r1 ≡ field 
 
           pub cut-url : at + 3 + x + y ≤ length s → length s - (at + 3 + x + y) < n → Err (refusal.Cut (at + 3 + x + y)) ≡ fields_of s at
           cut-url k h =
-              has 2 s at r1 e1 _ _ _ i g1
-              (has 1 s (at + 2) r2 e2 _ _ _ fl g2
-              (has (wide fl 0x80 2) s (at + 3) r3 third _ _ _ d g3
-              (has (wide fl 0x40 1) s (at + 3 + wide fl 0x80 2) r4 fourth _ _ _ n g4
+              has by-result 2 s at r1 e1 _ _ _ i g1
+              (has by-result 1 s (at + 2) r2 e2 _ _ _ fl g2
+              (has by-result (wide fl 0x80 2) s (at + 3) r3 third _ _ _ d g3
+              (has by-result (wide fl 0x40 1) s (at + 3 + wide fl 0x80 2) r4 fourth _ _ _ n g4
               (ends n s (at + 3 + wide fl 0x80 2 + wide fl 0x40 1) _ _ _ (omega (arith, y-is, k, h)) (ap (λ p. Err (refusal.Cut p)) y-is)))))
 
           module _ (h : n ≤ length s - (at + 3 + x + y)) (k : at + 3 + x + y ≤ length s) (r5 : Result ℕ Refusal) (e5 : r5 ≡ field Err (when c 2 0) s (at + 3 + x + y + n) Ok) where
@@ -98,23 +98,23 @@ module _ (s : List ℕ) (at : ℕ) (r1 : Result ℕ Refusal) (e1 : r1 ≡ field 
 
             pub cut-clock : (q : Refusal) → r5 ≡ Err q → Err (refusal.Cut (at + 3 + x + y + n)) ≡ fields_of s at
             cut-clock q g =
-                has 2 s at r1 e1 _ _ _ i g1
-                (has 1 s (at + 2) r2 e2 _ _ _ fl g2
-                (has (wide fl 0x80 2) s (at + 3) r3 third _ _ _ d g3
-                (has (wide fl 0x40 1) s (at + 3 + wide fl 0x80 2) r4 fourth _ _ _ n g4
+                has by-result 2 s at r1 e1 _ _ _ i g1
+                (has by-result 1 s (at + 2) r2 e2 _ _ _ fl g2
+                (has by-result (wide fl 0x80 2) s (at + 3) r3 third _ _ _ d g3
+                (has by-result (wide fl 0x40 1) s (at + 3 + wide fl 0x80 2) r4 fourth _ _ _ n g4
                 (whole n s (at + 3 + wide fl 0x80 2 + wide fl 0x40 1) _ _ _ (be n s (at + 3 + wide fl 0x80 2 + wide fl 0x40 1)) room refl
-                (ends (wide fl 0x20 2) s (at + 3 + wide fl 0x80 2 + wide fl 0x40 1 + n) _ _ _ (lacks (wide fl 0x20 2) s (at + 3 + wide fl 0x80 2 + wide fl 0x40 1 + n) r5 fifth q g)
+                (ends (wide fl 0x20 2) s (at + 3 + wide fl 0x80 2 + wide fl 0x40 1 + n) _ _ _ (lacks by-result (wide fl 0x20 2) s (at + 3 + wide fl 0x80 2 + wide fl 0x40 1 + n) r5 fifth q g)
                 (ap (λ p. Err (refusal.Cut p)) n-is))))))
 
             pub all_read : (o : ℕ) → r5 ≡ Ok o → (z : ℕ) → z ≡ when c 2 0 → Ok (stream i fl d o, at + 3 + x + y, at + 3 + x + y + n, at + 3 + x + y + n + z) ≡ fields_of s at
             all_read o g5 z ez =
                 let z-is : at + 3 + x + y + n + z ≡ at + 3 + wide fl 0x80 2 + wide fl 0x40 1 + n + wide fl 0x20 2 = ap₂ (λ (p k : ℕ). p + k) n-is (ez ∙ ap (λ t. when t 2 0) ec) in
-                has 2 s at r1 e1 _ _ _ i g1
-                (has 1 s (at + 2) r2 e2 _ _ _ fl g2
-                (has (wide fl 0x80 2) s (at + 3) r3 third _ _ _ d g3
-                (has (wide fl 0x40 1) s (at + 3 + wide fl 0x80 2) r4 fourth _ _ _ n g4
+                has by-result 2 s at r1 e1 _ _ _ i g1
+                (has by-result 1 s (at + 2) r2 e2 _ _ _ fl g2
+                (has by-result (wide fl 0x80 2) s (at + 3) r3 third _ _ _ d g3
+                (has by-result (wide fl 0x40 1) s (at + 3 + wide fl 0x80 2) r4 fourth _ _ _ n g4
                 (whole n s (at + 3 + wide fl 0x80 2 + wide fl 0x40 1) _ _ _ (be n s (at + 3 + wide fl 0x80 2 + wide fl 0x40 1)) room refl
-                (has (wide fl 0x20 2) s (at + 3 + wide fl 0x80 2 + wide fl 0x40 1 + n) r5 fifth _ _ _ o g5
+                (has by-result (wide fl 0x20 2) s (at + 3 + wide fl 0x80 2 + wide fl 0x40 1 + n) r5 fifth _ _ _ o g5
                 (ap₂ (λ (u v : ℕ). Ok (stream i fl d o, u, v, at + 3 + x + y + n + z)) y-is n-is
                 ∙ ap (λ w. Ok (stream i fl d o, at + 3 + wide fl 0x80 2 + wide fl 0x40 1, at + 3 + wide fl 0x80 2 + wide fl 0x40 1 + n, w)) z-is))))))
 

@@ -14,7 +14,7 @@ use Rattle.numbers.specs.Number.{be}
 use Rattle.numbers.specs.Field.{when, number_of}
 use Rattle.numbers.specs.declared.Refusal.{Refusal}
 use Rattle.numbers.specs.declared.Refusal.TheVariants as refusal
-use Rattle.numbers.proofs.Chain.{there, lacks, is_le}
+use Rattle.numbers.proofs.Chain.{by-result, there, lacks, is_le}
 use Rattle.layout.specs.Rule.{rule_of, refusal_of}
 use Rattle.layout.specs.Read.{Got, got, fault, keep, one, decode}
 use Rattle.layout.specs.Canonical.{standard, followed, exact, ours}
@@ -25,10 +25,10 @@ use Rattle.layout.proofs.Cases.{width_of}
 -- a field that is asked for by its rule is read, or it is cut
 module _ (r : Rule) (f : Field) (v fl : ℕ) (e : r ≡ rule_of f v fl) (b : List ℕ) (at : ℕ) (u : Result ℕ Refusal) (q : u ≡ number_of r.width b at) where
   pub field-there : (x : ℕ) → u ≡ Ok x → (at + r.width ≤ length b) × (x ≡ be r.width b at)
-  field-there x h = there r.width b at u (q ∙ sym (is_le _ _ _ r.width 8 (width_of r f v fl e) refl)) x h
+  field-there x h = there by-result r.width b at u (q ∙ sym (is_le _ _ _ r.width 8 (width_of r f v fl e) refl)) x h
 
   pub field-lacks : (z : Refusal) → u ≡ Err z → length b < at + r.width
-  field-lacks z h = lacks r.width b at u (q ∙ sym (is_le _ _ _ r.width 8 (width_of r f v fl e) refl)) z h
+  field-lacks z h = lacks by-result r.width b at u (q ∙ sym (is_le _ _ _ r.width 8 (width_of r f v fl e) refl)) z h
 
 neither : (t : Bool) → when t false false ≡ false
 unfolding when

@@ -78,25 +78,43 @@ module _ (w : ℕ) (s : List ℕ) (at : ℕ) where
       ⊎_elim (λ y. inl (leb-true (at + w) (length s) y.0, y.1)) (λ y. inr (leb-false (at + w) (length s) y.0, y.1))
       (way (fits w s at) (go (be w s at)) (refused (refusal.Cut at)) z e)
 
-module _ (w : ℕ) (s : List ℕ) (at : ℕ) (r : Result ℕ Refusal) (e : r ≡ field Err w s at Ok) where
+-- how an answer type tells a number or a refusal, and what it told
+pub record Reader (U : Type 0) : Type 0 where
+  pub is : ℕ → U
+  pub refused : Refusal → U
+  pub told : U → Result ℕ Refusal
+  pub some : (n : ℕ) → told (is n) ≡ Ok n
+  pub no : (q : Refusal) → told (refused q) ≡ Err q
+
+abbrev pub by-result : Reader (Result ℕ Refusal)
+by-result = record { is = Ok; refused = Err; told = λ r. r; some = λ n. refl; no = λ q. refl }
+
+module _ {U : Type 0} (b : Reader U) (w : ℕ) (s : List ℕ) (at : ℕ) (r : U) (e : r ≡ field b.refused w s at b.is) where
+  seen : b.told r ≡ field Err w s at Ok
+  unfolding field
+  seen =
+      ap b.told e ∙ through b.told (fits w s at) (b.is (be w s at)) (b.refused (refusal.Cut at))
+      ∙ ap (λ a. when (fits w s at) a (b.told (b.refused (refusal.Cut at)))) (b.some (be w s at))
+      ∙ ap (λ a. when (fits w s at) (Ok (be w s at)) a) (b.no (refusal.Cut at))
+
   -- it was read, so it was there
-  pub there : (n : ℕ) → r ≡ Ok n → (at + w ≤ length s) × (n ≡ be w s at)
+  pub there : (n : ℕ) → r ≡ b.is n → (at + w ≤ length s) × (n ≡ be w s at)
   there n f =
       ⊎_elim (λ y. (y.0, cc y.1)) (λ y. let z : ◌≡◌ {A = ℕ} 0 1 = cc y.1 in absurd (omega arith))
-      (field-way w s at Err Ok (Ok n) (sym e ∙ f))
+      (field-way w s at Err Ok (Ok n) (sym seen ∙ ap b.told f ∙ b.some n))
 
-  was-cut : (q : Refusal) → r ≡ Err q → (length s < at + w) × (q ≡ refusal.Cut at)
+  was-cut : (q : Refusal) → r ≡ b.refused q → (length s < at + w) × (q ≡ refusal.Cut at)
   was-cut q f =
       ⊎_elim (λ y. let z : ◌≡◌ {A = ℕ} 0 1 = cc y.1 in absurd (omega arith)) (λ y. (y.0, cc y.1))
-      (field-way w s at Err Ok (Err q) (sym e ∙ f))
+      (field-way w s at Err Ok (Err q) (sym seen ∙ ap b.told f ∙ b.no q))
 
   -- it was refused, so it was cut
-  pub lacks : (q : Refusal) → r ≡ Err q → length s < at + w
+  pub lacks : (q : Refusal) → r ≡ b.refused q → length s < at + w
   lacks q f = (was-cut q f).0
 
   module _ {A : Type 0} (away : Refusal → A) (go : ℕ → A) (x : A) where
-    pub has : (n : ℕ) → r ≡ Ok n → x ≡ go n → x ≡ field away w s at go
+    pub has : (n : ℕ) → r ≡ b.is n → x ≡ go n → x ≡ field away w s at go
     has n f q = whole w s at away go x n (there n f).0 (there n f).1 q
 
-    pub has-not : (q : Refusal) → r ≡ Err q → x ≡ away q → x ≡ field away w s at go
+    pub has-not : (q : Refusal) → r ≡ b.refused q → x ≡ away q → x ≡ field away w s at go
     has-not q f o = ends w s at away go x (was-cut q f).0 (o ∙ ap away (was-cut q f).1)

@@ -10,7 +10,7 @@ use lib.Seq.{get_or-take}
 use Rattle.numbers.specs.Number.{be}
 use Rattle.numbers.specs.Field.{field, or_zero}
 use Rattle.numbers.specs.declared.Refusal.{Refusal}
-use Rattle.numbers.proofs.Chain.{there, lacks, whole, ends}
+use Rattle.numbers.proofs.Chain.{by-result, there, lacks, whole, ends}
 use Rattle.words.proofs.Words.{be-drop}
 use Rattle.tables.specs.Tables.{list_from, sum, size_at}
 use Rattle.tables.specs.declared.Sizes.{Sizes}
@@ -110,11 +110,11 @@ module _ (p : List ℕ) (i s : ℕ) (a : Added p i s) where
 
   module _ (u : Result ℕ Refusal) (e : u ≡ field Err 4 p i Ok) where
     pub added-cut : (q : Refusal) → u ≡ Err q → s ≡ words_sum p
-    added-cut q g = added-all (lacks 4 p i u e q g)
+    added-cut q g = added-all (lacks by-result 4 p i u e q g)
 
     pub added-one : (n : ℕ) → u ≡ Ok n → n < 4294967296 → Added p (i + 4) (s + n)
     added-one n g b =
-        let t = there 4 p i u e n g in
+        let t = there by-result 4 p i u e n g in
         let k : (i + 4) / 4 ≡ i / 4 + 1 = omega (arith, a.0) in
         let m : length p / 4 - (i / 4 + 1) ≡ length p / 4 - i / 4 - 1 = omega arith in
         let w : n ≡ word_of p (i / 4) = whole 4 p (i / 4 * 4) (λ x. 0) (λ x. x) n n (omega (arith, a.0, t.0)) (t.1 ∙ ap (be 4 p) a.0) refl in

@@ -8,7 +8,7 @@ use native.Mathlib.Omega.{arith}
 use lib.IntN.{ℤ}
 use Rattle.numbers.specs.Field.{field, when}
 use Rattle.numbers.specs.declared.Refusal.{Refusal}
-use Rattle.numbers.proofs.Chain.{has, has-not}
+use Rattle.numbers.proofs.Chain.{by-result, has, has-not}
 use Rattle.layout.specs.Rule.{is_set}
 use Rattle.trun.specs.Trun.{present, optional, composition_of, sample_at, duration_bit, size_bit, flags_bit, composition_bit}
 
@@ -19,7 +19,7 @@ module _ (flags bit : ℕ) (s : List ℕ) (p at : ℕ) (lies : p ≡ at) (r : Re
   value-is away go x n f q = by (is_set flags bit) e ∙ ap (λ k. optional away flags bit s k go) lies
     where
       by : (t : Bool) → r ≡ when t (field Err 4 s p Ok) (Ok 0) → x ≡ when t (field away 4 s p go) (go 0)
-      by true d = has 4 s p r d away go x n f q
+      by true d = has by-result 4 s p r d away go x n f q
       by false d = let z : n ≡ 0 = cc (d, f) in q ∙ ap go z
 
   value-not : {A : Type 0} (away : Refusal → A) (go : ℕ → A) (q : Refusal) → r ≡ Err q → away q ≡ optional away flags bit s at go
@@ -27,7 +27,7 @@ module _ (flags bit : ℕ) (s : List ℕ) (p at : ℕ) (lies : p ≡ at) (r : Re
   value-not away go q f = by (is_set flags bit) e ∙ ap (λ k. optional away flags bit s k go) lies
     where
       by : (t : Bool) → r ≡ when t (field Err 4 s p Ok) (Ok 0) → away q ≡ when t (field away 4 s p go) (go 0)
-      by true d = has-not 4 s p r d away go (away q) q f refl
+      by true d = has-not by-result 4 s p r d away go (away q) q f refl
       by false d = let z : ◌≡◌ {A = ℕ} 0 1 = cc (d, f) in absurd (omega arith)
 
 -- r is what was read of a flag's value at p

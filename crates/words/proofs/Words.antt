@@ -1,6 +1,7 @@
 -- The laws of numbers in the file: the position that is looked at, and the signed number that 32 bits stand for.
 -- Assumes nothing.
 use Rattle.std.specs.Prelude.{Result, Ok, Err}
+use Rattle.std.specs.Result.{result_unwrap_or}
 use mathlib.Core.Path.{◌≡◌, refl, sym, ap, ap₂, ◌∙◌}
 use mathlib.Core.List.{List}
 use mathlib.Core.Bool.{cond}
@@ -17,7 +18,7 @@ use borrow.Author.Tests.{lt-ltb, le-ltb}
 use Rattle.numbers.specs.Number.{be}
 use Rattle.numbers.specs.Field.{field, or_zero}
 use Rattle.numbers.specs.declared.Refusal.{Refusal}
-use Rattle.numbers.proofs.Chain.{there, lacks, whole, ends, is_lt, not-lt}
+use Rattle.numbers.proofs.Chain.{by-result, there, lacks, whole, ends, is_lt, not-lt}
 use Rattle.signed.specs.Signed.{signed}
 
 -- a number is the same in the part of the file from `at` on
@@ -41,11 +42,18 @@ module _ (w : ℕ) (f : List ℕ) (at past : ℕ) where
 
     pub word-is : (n : ℕ) → u ≡ Ok n → n ≡ or_zero w f (at + past)
     word-is n g =
-        let t = there w p past u e n g in
+        let t = there by-result w p past u e n g in
         whole w f (at + past) (λ q. 0) (λ k. k) n n (omega (arith, t.0, long)) (t.1 ∙ ap (λ (l : List ℕ). be w l past) part ∙ be-drop w at f past) refl
 
     pub word-not : (q : Refusal) → u ≡ Err q → 0 ≡ or_zero w f (at + past)
-    word-not q g = ends w f (at + past) (λ q. 0) (λ k. k) 0 (omega (arith, lacks w p past u e q g, long)) refl
+    word-not q g = ends w f (at + past) (λ q. 0) (λ k. k) 0 (omega (arith, lacks by-result w p past u e q g, long)) refl
+
+    word-by : (v : Result ℕ Refusal) → u ≡ v → result_unwrap_or v 0 ≡ or_zero w f (at + past)
+    word-by (Ok n) g = word-is n g
+    word-by (Err q) g = word-not q g
+
+    pub word-or : (n : ℕ) → n ≡ result_unwrap_or u 0 → n ≡ or_zero w f (at + past)
+    word-or n g = g ∙ word-by u refl
 
 -- SIGNED
 

@@ -11,10 +11,7 @@ pub fn four(file: &[u8], at: usize, past: usize) -> u32
     if file.len() < at {
         return 0;
     }
-    match numbers::read::<u32>(&file[at..], past) {
-        Ok(n) => n,
-        Err(_) => 0,
-    }
+    numbers::read::<u32>(&file[at..], past).unwrap_or(0)
 }
 
 // The number in 8 bytes, `past` bytes behind `at`, or 0 where they are not all in the file.
@@ -24,10 +21,7 @@ pub fn eight(file: &[u8], at: usize, past: usize) -> u64
     if file.len() < at {
         return 0;
     }
-    match numbers::read::<u64>(&file[at..], past) {
-        Ok(n) => n,
-        Err(_) => 0,
-    }
+    numbers::read::<u64>(&file[at..], past).unwrap_or(0)
 }
 
 // The signed number that 32 bits stand for.

@@ -2,7 +2,7 @@ use mathlib.Core.Path.{sym}
 use Prim.Native.Nat.{◌+◌, ◌≤◌}
 use lib.ListN.{length}
 use native.Mathlib.Omega.{arith}
-use Rattle.numbers.proofs.Chain.{has}
+use Rattle.numbers.proofs.Chain.{by-result, has}
 use Rattle.descriptor.proofs.Cases.{head-is}
 use Rattle.descriptor.proofs.Laws.{length-within}
 use Rattle.descriptor.proofs.head_at.Goals as goal
@@ -15,4 +15,4 @@ pub returns : goal.returns
 returns c =
     let l = c.in_ok-value.field-0 in
     let w : l.after ≤ length c.args.s.now = (length-within c.args.s.now (c.args.at + 1) l.value l.after (sym c.in_ok-value.ensures)).0 in
-    has 1 _ _ _ c.read.ensures _ _ _ _ c.in_ok-tag.was (head-is c.args.s.now c.args.at c.in_ok-tag.tag _ l.value l.after (sym c.in_ok-value.ensures) (omega arith))
+    has by-result 1 _ _ _ c.read.ensures _ _ _ _ c.in_ok-tag.was (head-is c.args.s.now c.args.at c.in_ok-tag.tag _ l.value l.after (sym c.in_ok-value.ensures) (omega arith))

@@ -3,7 +3,7 @@ use mathlib.Core.Path.{refl, sym, ap, ◌∙◌}
 use native.Mathlib.Omega.{arith}
 use lib.ListN.{length}
 use lib.Seq.{length-take-le}
-use Rattle.numbers.proofs.Chain.{has, is_le, is_eq, is_ne}
+use Rattle.numbers.proofs.Chain.{by-result, has, is_le, is_eq, is_ne}
 use Rattle.descriptor.proofs.Laws.{length-within}
 use Rattle.esds.specs.Esds.{lengthed}
 use Rattle.esds.proofs.stream_at.Goals as goal
@@ -23,7 +23,7 @@ returns-then-tag-eq3-2 c =
     let l = c.in-Ok.length in
     let w = (length-within c.args.s.now (c.args.at + 1) l.value l.after (sym c.in-Ok.ensures)).0 in
     let r : l.after + l.value ≤ length c.args.s.now = omega (arith, w, c.if-s-length.false) in
-    has 1 c.args.s.now c.args.at _ c.read.ensures _ _ _ c.in_ok-tag.tag c.in_ok-tag.was
+    has by-result 1 c.args.s.now c.args.at _ c.read.ensures _ _ _ c.in_ok-tag.tag c.in_ok-tag.was
     (is_le _ _ _ (l.after + l.value) (length c.args.s.now) r (is_eq _ _ _ c.in_ok-tag.tag 3 c.if-tag-eq3-2.true c.content_at.ensures)
     ∙ ap (lengthed c.args.s.now c.args.at c.args.flags c.in_ok-tag.tag) c.in-Ok.ensures)
 
@@ -32,6 +32,6 @@ returns-else-tag-eq3-2 c =
     let l = c.in-Ok.length in
     let w = (length-within c.args.s.now (c.args.at + 1) l.value l.after (sym c.in-Ok.ensures)).0 in
     let r : l.after + l.value ≤ length c.args.s.now = omega (arith, w, c.if-s-length.false) in
-    has 1 c.args.s.now c.args.at _ c.read.ensures _ _ _ c.in_ok-tag.tag c.in_ok-tag.was
+    has by-result 1 c.args.s.now c.args.at _ c.read.ensures _ _ _ c.in_ok-tag.tag c.in_ok-tag.was
     (is_le _ _ _ (l.after + l.value) (length c.args.s.now) r (is_ne _ _ _ c.in_ok-tag.tag 3 c.if-tag-eq3-2.false refl)
     ∙ ap (lengthed c.args.s.now c.args.at c.args.flags c.in_ok-tag.tag) c.in-Ok.ensures)
