@@ -1,6 +1,6 @@
 -- The fields up to one of a row are read as the whole row reads them. Assumes nothing.
 use Rattle.std.specs.Prelude.{Result, Ok, Err, Some}
-use mathlib.Core.Path.{◌≡◌, refl, sym, ap, ap₂, ◌∙◌}
+use mathlib.Core.Path.{◌≡◌, refl, sym, ap, ◌∙◌}
 use mathlib.Core.List.{List, [], ◌∷◌, ◌++◌}
 use mathlib.Core.Bool.{Bool, true, false}
 use Prim.Native.Nat.{ℕ, zero, suc, ◌+◌, ◌-◌, ◌≤◌, ◌<◌}
@@ -113,10 +113,15 @@ module _ (kind : ℕ) (fs : List Field) (b : List ℕ) (all : slots fs ≤ 24) (
   pub first-read : read_of kind fs b ≡ Ok f → First (read_of kind (padded (take n fs)) b)
   first-read z = by-header (header_of b 0 true) refl z
 
--- A KEY IS THE VALUE IN ITS SLOT OF A BOX THAT IS READ
-pub key-in : (kind : ℕ) (fs : List Field) (b : List ℕ) (slot : ℕ) → slot < slots (padded (take (suc slot) fs)) → slots (padded (take (suc slot) fs)) ≤ 24 → slots fs ≤ 24 →
-    (f : Fields) → read_of kind fs b ≡ Ok f → (p : ℕ) × (key_at kind b fs slot ≡ Some (get_or f.values slot 0, p))
-key-in kind fs b slot some few all f z =
-    let first = first-read kind fs b all slot f z in
-    let whole = first-read kind fs b all (suc slot) f z in
-    (first.0.place, ap₂ (key_in slot) first.1 whole.1 ∙ ap (λ x. Some (x, first.0.place)) (whole.2 slot some few))
+-- A KEY IS THE VALUE IN ITS SLOT OF A BOX THAT IS READ, and begins where the fields before it end
+module _ (kind : ℕ) (fs : List Field) (b : List ℕ) (slot : ℕ) (some : slot < slots (padded (take (suc slot) fs))) (few : slots (padded (take (suc slot) fs)) ≤ 24) (all : slots fs ≤ 24) (f : Fields) where
+  pub key-in : (first : Fields) → read_of kind fs b ≡ Ok f → key_in slot (Ok first) (read_of kind (padded (take (suc slot) fs)) b) ≡ Some (get_or f.values slot 0, first.place)
+  key-in first z =
+      let whole = first-read kind fs b all (suc slot) f z in
+      ap (key_in slot (Ok first)) whole.1 ∙ ap (λ x. Some (x, first.place)) (whole.2 slot some few)
+
+  -- the fields before it are read
+  pub key-begins : read_of kind fs b ≡ Ok f → (first : Fields) × (read_of kind (padded (take slot fs)) b ≡ Ok first) × (key_at kind b fs slot ≡ Some (get_or f.values slot 0, first.place))
+  key-begins z =
+      let first = first-read kind fs b all slot f z in
+      (first.0, first.1, ap (λ r. key_in slot r (read_of kind (padded (take (suc slot) fs)) b)) first.1 ∙ key-in first.0 z)

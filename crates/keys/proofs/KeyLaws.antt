@@ -28,7 +28,7 @@ use Rattle.trun.specs.declared.Trun.{Trun}
 use Rattle.url_box.specs.Url as url
 use Rattle.url_box.specs.declared.Url.{Url}
 use Rattle.keys.specs.Key.{key_at, pick_key, keys, key_of}
-use Rattle.keys.proofs.Firsts.{key-in}
+use Rattle.keys.proofs.Firsts.{key-begins}
 
 -- the key x of a part, wherever it stands
 abbrev pub KeyIs : ℕ → List ℕ → ℕ → Type 0
@@ -38,8 +38,8 @@ KeyIs kind part x = (p : ℕ) × (key_of kind part ≡ Some (x, p))
 slot-key : (kind : ℕ) (fs : List Field) (part : List ℕ) (slot : ℕ) → slot < slots (padded (take (suc slot) fs)) → slots (padded (take (suc slot) fs)) ≤ 24 → slots fs ≤ 24 →
     key_of kind part ≡ key_at kind part fs slot → (f : Fields) (x : ℕ) → read_of kind fs part ≡ Ok f → get_or f.values slot 0 ≡ x → KeyIs kind part x
 slot-key kind fs part slot some few all e f x r v =
-    let k = key-in kind fs part slot some few all f r in
-    (k.0, e ∙ k.1 ∙ ap (λ n. Some (n, k.0)) v)
+    let k = key-begins kind fs part slot some few all f r in
+    (k.0.place, e ∙ k.2 ∙ ap (λ n. Some (n, k.0.place)) v)
 
 -- what a plain box that is read tells of its slots
 plain-slots : {M : Type 0} (from : List ℕ → M) (r : Result Fields Refusal) (m : M) → answer from r ≡ Ok m → (f : Fields) × (r ≡ Ok f) × (from f.values ≡ m)

@@ -34,10 +34,10 @@ fn last(kind: u32, part: &[u8], row: [Field; 24], slot: usize) -> Option<(u64, u
     requires { slot < 24 }
     ensures { result ≡ key_in slot (read_of kind (set row slot Field.Nothing) part.now) (read_of kind row part.now) }
 {
+    let got = layout::read::by(part, kind, row).ok()?;
     let mut first = row;
     first[slot] = Field::Nothing;
     let before = layout::read::by(part, kind, first).ok()?;
-    let got = layout::read::by(part, kind, row).ok()?;
     let v = got.values;
     Some((v[slot], before.place))
 }
