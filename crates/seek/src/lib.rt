@@ -23,6 +23,7 @@ pub enum Spot {
 }
 
 // The value of sample k in a table of runs, and the sum of the values before it.
+#[inline(always)]
 pub fn value_at(file: &[u8], rows: Rows, k: u32) -> Value
     ensures { result ≡ value_of (values_of (rows_of file.now rows)) k }
 {
@@ -58,6 +59,7 @@ fn least(a: u64, b: u64) -> u64
 
 // The chunk of sample k, by stsc's rows, and how many samples of that chunk come before it. No row reaches past the
 // last chunk.
+#[inline(always)]
 pub fn chunk_at(file: &[u8], rows: Rows, k: u32) -> Spot
     ensures { result ≡ spot_of (per_chunk file.now rows) k }
 {
