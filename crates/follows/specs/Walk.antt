@@ -1,4 +1,4 @@
--- The walk that answers in one pass, as a fold over moofs, tracks and runs. `walk-answers` (proofs/Answers.antt) says that it
+-- The walk that answers in one pass, as a fold over moofs, tracks and runs. `walk-answers` (proofs/Walked.antt) says that it
 -- gives `followed_of`. Assumes nothing.
 use Rattle.std.specs.Prelude.{ℕ, ◌+◌, min, Bool, true, false, List, [], ◌∷◌, ℤ, pos, negsuc, ◌==◌, slice_index_or, slice_set, Option, Some, None}
 use Rattle.numbers.specs.Field.{when}
